@@ -1,0 +1,61 @@
+-- The leap months of the Xinghe (01, "Years and months"): from the middle terms, and what follows for the leap remainder.
+-- Assumes nothing.
+use mathlib.Core.Path.{_≡_, refl}
+use mathlib.Core.Logic.{_⊎_, ⊎-elim, _↔_}
+use mathlib.Core.Bool.{Bool}
+use Prim.Native.Nat.{ℕ, suc, _+_, _-_, _*_, _/_, _%_, _≤_, _<_}
+use native.Mathlib.Omega.{arith}
+use lib.Dec.{T, leb, le→leb, leb→le}
+use borrow.Author.Tests.{le-leb, lt-leb}
+use Rattle.reckoning.specs.Search.{pick, firstFrom}
+use Rattle.reckoning.specs.Rule.{monthCount, isLeap, leapPlace}
+use Rattle.reckoning.proofs.Searches.{le-or-lt, first-is}
+use Rattle.reckoning.proofs.Leaps.{one-term, leap-holds-none, Common, Long, common, long, two-kinds}
+use Rattle.reckoning.proofs.Chapters.{common-year, long-year, leap-place}
+use Rattle.lunisolar.specs.Calendars.{leapRemainder}
+use Rattle.units.specs.Xinghe.{xinghe, means, rule, chapterMonths, chapterYears, chapterLeaps}
+use Rattle.units.proofs.Sound.{sound, laws}
+
+-- each month holds at most one middle term
+pub one-middle-term : (m i j : ℕ) → T (rule .holds m i) → T (rule .holds m j) → i ≡ j
+one-middle-term = one-term rule laws
+
+-- a year has 12 months, each with a middle term, or 13, of which exactly one holds none
+pub twelve-or-thirteen : (y : ℕ) → Common rule laws y ⊎ Long rule laws y
+twelve-or-thirteen = two-kinds rule laws
+
+-- and that one, the leap month, holds no middle term of any year
+pub no-middle-term : (y m j : ℕ) → rule .before y ≤ m → m < rule .before (suc y) → T (isLeap rule y m) → ¬ (T (rule .holds m j))
+no-middle-term = leap-holds-none rule laws
+
+module _ (y : ℕ) where
+  abbrev r : ℕ
+  r = leapRemainder xinghe y
+
+  short : r < 355 → Common rule laws y
+  short h = common rule laws y (common-year means chapterMonths chapterYears (sound .rule) chapterLeaps refl y (omega arith))
+
+  leaping : 355 ≤ r → Long rule laws y
+  leaping h = long rule laws y (long-year means chapterMonths chapterYears (sound .rule) chapterLeaps refl y (omega arith))
+
+  -- it has 13 exactly where r is 355 or more
+  pub thirteen-from-355 : (monthCount rule y ≡ 13) ↔ (355 ≤ r)
+  thirteen-from-355 =
+      (λ e. ⊎-elim (λ h. h) (λ (h : r < 355). absurd (omega (arith, short h .count))) (le-or-lt 355 r), λ h. leaping h .count)
+
+  -- the leap place is then the least k with 12·r + 207·k at least 6,744; otherwise it is 0
+  pub leap-place-is : leapPlace rule y ≡ pick (leb 355 r) (firstFrom (λ k. leb 6744 (12 * r + 207 * k)) 0 13) 0
+  leap-place-is =
+      let f : ℕ → Bool = λ k. leb 6744 (12 * r + 207 * k) in
+      let l : ℕ = (6950 - 12 * r) / 207 in
+      ⊎-elim
+      (λ (h : 355 ≤ r).
+      let b : r < 562 = omega arith in
+      rw (
+        le-leb 355 r h,
+        leap-place means chapterMonths chapterYears (sound .rule) chapterLeaps refl y l (omega arith) (omega arith) (omega arith),
+        first-is f 13 0 l (omega arith) (omega arith) (le→leb 6744 (12 * r + 207 * l) (omega arith))
+            (λ q a b t. omega (arith, leb→le 6744 (12 * r + 207 * q) t)),
+      ))
+      (λ (h : r < 355). rw (lt-leb 355 r h) (short h .place))
+      (le-or-lt 355 r)

@@ -1,0 +1,5 @@
+pub mod Round
+pub mod LeapMonths
+pub mod Months
+pub mod Days
+pub mod Refusals

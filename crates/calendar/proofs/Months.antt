@@ -1,0 +1,43 @@
+-- The months of the round: month to year and place and back, and the treatise's monthly addition.
+-- Assumes nothing.
+use mathlib.Core.Path.{_≡_, _∙_, refl, sym, ap}
+use Prim.Native.Nat.{ℕ, suc, _+_, _-_, _<_, _≤_}
+use native.Mathlib.Omega.{arith}
+use Rattle.reckoning.specs.Rule.{yearOf, placeOf}
+use Rattle.reckoning.proofs.Rows.{month-back, place-in}
+use Rattle.lunisolar.proofs.Laws.{lunation-at}
+use Rattle.units.specs.Xinghe.{xinghe, rule, roundMonths}
+use Rattle.units.proofs.Sound.{laws}
+use Rattle.moon.specs.NewMoons.{newMoonOf, monthlyAddition}
+use Rattle.moon.specs.declared.NewMoon.{NewMoon}
+use Rattle.moon.proofs.Addition.{next-new-moon}
+use Rattle.calendar.specs.Rows.{rowOf, rowAt, monthRow}
+use Rattle.calendar.specs.declared.MonthRow.{MonthRow}
+use Rattle.calendar.specs.declared.RowAnswer.{RowAnswer}
+use Rattle.calendar.proofs.Round.{year-in-round, in-round, stands-year, stands-place, row-found}
+
+-- a month's row is the row at its year and place
+pub month-to-place : (m : ℕ) → m < roundMonths → monthRow (rowOf m .year) (rowOf m .place) ≡ RowAnswer.Answered (rowOf m)
+unfolding rowOf rowAt
+month-to-place m h =
+    rw (lunation-at xinghe (yearOf rule m) (placeOf rule m) (year-in-round m h) (place-in rule laws m), month-back rule laws m)
+
+-- a row that is answered for a year and a place has that year and that place
+pub place-to-month : (n p : ℕ) (row : MonthRow) → monthRow n p ≡ RowAnswer.Answered row → (row .year ≡ n) × (row .place ≡ p) × (row .lunation < roundMonths)
+unfolding rowOf
+place-to-month n p row e =
+    let f = row-found n p row (sym e) in
+    let y = stands-year (n - 1) p (f .month) (f .stands) in
+    let r = f .is-row in (
+      ap (λ (x : MonthRow). x .year) r ∙ omega (arith, y, f .written),
+      ap (λ (x : MonthRow). x .place) r ∙ stands-place (n - 1) p (f .month) (f .stands),
+      rw r (in-round (n - 1) p (f .month) (f .stands)),
+    )
+
+-- the monthly addition gives the next row's day and remainder, at every month that has a next
+abbrev pub moonOf : MonthRow → NewMoon
+moonOf row = record { day = row .day; remainder = row .remainder }
+
+pub monthly : (m : ℕ) → suc m < roundMonths → moonOf (rowOf (suc m)) ≡ monthlyAddition (moonOf (rowOf m))
+unfolding rowOf
+monthly m h = next-new-moon m

@@ -1,0 +1,81 @@
+-- The numbers returned (01, "Numbers returned"), as equations on all inputs, the lowest that applies first; and zero values with each refusal.
+-- Assumes nothing.
+use mathlib.Core.Path.{_≡_, _∙_, refl, ap}
+use mathlib.Core.Bool.{Bool}
+use Prim.Native.Nat.{ℕ, suc, _+_, _-_}
+use lib.Dec.{ltb}
+use Rattle.reckoning.specs.Search.{pick, between}
+use Rattle.reckoning.specs.Rule.{monthCount}
+use Rattle.reckoning.specs.Means.{newMoon}
+use Rattle.reckoning.specs.Dates.{monthOf}
+use Rattle.reckoning.proofs.Searches.{through}
+use Rattle.refusal.specs.declared.Refusal.{Refusal}
+use Rattle.lunisolar.specs.Calendars.{yearAt, lunationIn, lunationAt}
+use Rattle.lunisolar.specs.declared.YearAnswer.{YearAnswer}
+use Rattle.lunisolar.specs.declared.LunationAnswer.{LunationAnswer}
+use Rattle.units.specs.Xinghe.{xinghe, means, rule, roundYears, roundDays}
+use Rattle.calendar.specs.Heads.{headAt, yearHead}
+use Rattle.calendar.specs.Rows.{rowOf, rowAt, monthRow}
+use Rattle.calendar.specs.Dates.{dayOf, dayIn, dayAt, dayOfDate, dateIn, dateOfDay}
+use Rattle.calendar.specs.Answers.{headNumber, headValues, zeroHead, rowNumber, rowValues, zeroRow, dayNumber, dayValues, zeroDay, dateNumber, dateValues, zeroDate}
+use Rattle.calendar.specs.declared.HeadAnswer.{HeadAnswer}
+use Rattle.calendar.specs.declared.RowAnswer.{RowAnswer}
+use Rattle.calendar.specs.declared.DayAnswer.{DayAnswer}
+use Rattle.calendar.specs.declared.DateAnswer.{DateAnswer}
+
+-- the year is one of the round's, and the place one of the year's
+abbrev pub isYear : ℕ → Bool
+isYear n = between 1 n (suc roundYears)
+
+abbrev pub isPlace : ℕ → ℕ → Bool
+isPlace n p = ltb p (monthCount rule (n - 1))
+
+-- the day is one of the month's
+abbrev pub isDay : ℕ → ℕ → ℕ → Bool
+isDay n p i = between 1 i (suc (rowOf (rule .before (n - 1) + p) .length))
+
+-- what is made of a year that is sought, and of a place in it
+module _ {B : Type 0} (f : LunationAnswer → B) where
+  of-place : (n p : ℕ) → f (lunationAt xinghe n p) ≡
+      pick (isYear n) (pick (isPlace n p) (f (LunationAnswer.Lunation (rule .before (n - 1) + p))) (f (LunationAnswer.Refused Refusal.Place))) (f (LunationAnswer.Refused Refusal.Year))
+  unfolding yearAt lunationIn
+  of-place n p =
+      through (λ a. f (lunationIn xinghe a p)) (isYear n) (YearAnswer.Past (n - 1)) (YearAnswer.Refused Refusal.Year)
+      ∙ ap (λ (x : B). pick (isYear n) x (f (LunationAnswer.Refused Refusal.Year)))
+      (through f (isPlace n p) (LunationAnswer.Lunation (rule .before (n - 1) + p)) (LunationAnswer.Refused Refusal.Place))
+
+pub head-numbers : (n : ℕ) → headNumber (yearHead n) ≡ pick (isYear n) 0 1
+unfolding yearAt headAt
+head-numbers n = through (λ a. headNumber (headAt a)) (isYear n) (YearAnswer.Past (n - 1)) (YearAnswer.Refused Refusal.Year)
+
+pub row-numbers : (n p : ℕ) → rowNumber (monthRow n p) ≡ pick (isYear n) (pick (isPlace n p) 0 2) 1
+unfolding rowAt
+row-numbers n p = of-place (λ a. rowNumber (rowAt a)) n p
+
+pub day-numbers : (n p i : ℕ) → dayNumber (dayOfDate n p i) ≡ pick (isYear n) (pick (isPlace n p) (pick (isDay n p i) 0 3) 2) 1
+unfolding rowAt dayAt dayIn
+day-numbers n p i =
+    of-place (λ a. dayNumber (dayAt (rowAt a) i)) n p
+    ∙ ap (λ (x : ℕ). pick (isYear n) (pick (isPlace n p) x 2) 1)
+    (through dayNumber (isDay n p i) (DayAnswer.Answered (dayOf (rowOf (rule .before (n - 1) + p) .day + (i - 1)))) (DayAnswer.Refused Refusal.DayOfMonth))
+
+pub date-numbers : (d : ℕ) → dateNumber (dateOfDay d) ≡ pick (ltb d roundDays) 0 7
+unfolding dateOfDay
+date-numbers d = through dateNumber (ltb d roundDays) (DateAnswer.Answered (dateIn (rowOf (monthOf (newMoon means) d)) d)) (DateAnswer.Refused Refusal.Day)
+
+-- where the number is not 0, the values are all zero
+pub head-zero : (a : HeadAnswer) → ¬ (headNumber a ≡ 0) → headValues a ≡ zeroHead
+head-zero (HeadAnswer.Answered x) h = absurd (h refl)
+head-zero (HeadAnswer.Refused e) h = refl
+
+pub row-zero : (a : RowAnswer) → ¬ (rowNumber a ≡ 0) → rowValues a ≡ zeroRow
+row-zero (RowAnswer.Answered x) h = absurd (h refl)
+row-zero (RowAnswer.Refused e) h = refl
+
+pub day-zero : (a : DayAnswer) → ¬ (dayNumber a ≡ 0) → dayValues a ≡ zeroDay
+day-zero (DayAnswer.Answered x) h = absurd (h refl)
+day-zero (DayAnswer.Refused e) h = refl
+
+pub date-zero : (a : DateAnswer) → ¬ (dateNumber a ≡ 0) → dateValues a ≡ zeroDate
+date-zero (DateAnswer.Answered x) h = absurd (h refl)
+date-zero (DateAnswer.Refused e) h = refl

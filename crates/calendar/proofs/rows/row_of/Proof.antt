@@ -1,0 +1,29 @@
+use native.Mathlib.Omega.{arith}
+use Rattle.reckoning.specs.Rule.{placeOf}
+use Rattle.reckoning.proofs.Rows.{year-from}
+use Rattle.units.specs.Xinghe.{rule}
+use Rattle.units.proofs.Sound.{laws}
+use Rattle.calendar.proofs.Round.{year-in-round, stands}
+use borrow.Author.Needs.{needs}
+use Rattle.calendar.proofs.rows.row_of.Statement.{statement}
+use Rattle.calendar.proofs.rows.row_of.Tie as tie
+
+year-of-requires : tie.Need-year-of-requires
+year-of-requires c κs = search needs
+
+months-before-requires : tie.Need-months-before-requires
+months-before-requires c κs = omega (arith, year-in-round (c .before .args .lunation) (c .before .pre))
+
+sub-row-in : tie.Need-sub-row-in
+sub-row-in c = rw (c .months-before .ensures, c .before .year-of .ensures) (year-from rule laws (c .before .before .args .lunation))
+
+row-in-requires : tie.Need-row-in-requires
+unfolding placeOf
+row-in-requires c κs = rw (c .months-before .ensures, c .before .year-of .ensures) (stands (c .before .before .args .lunation) (c .before .before .pre))
+
+returns : tie.Need-returns
+returns c = search needs
+
+pub row-of-spec : {M : Type 1} → statement M
+row-of-spec =
+    tie.close (tie.spec year-of-requires months-before-requires sub-row-in row-in-requires returns)

@@ -1,0 +1,57 @@
+-- Each answer's number, 0 where it is answered, and its values, all zero where it is refused (01, "Numbers returned").
+-- Assumes nothing.
+use mathlib.Core.Bool.{false}
+use Prim.Native.Nat.{ℕ}
+use Rattle.refusal.specs.Numbers.{numberOf}
+use Rattle.calendar.specs.declared.YearHead.{YearHead}
+use Rattle.calendar.specs.declared.HeadAnswer.{HeadAnswer}
+use Rattle.calendar.specs.declared.MonthRow.{MonthRow}
+use Rattle.calendar.specs.declared.RowAnswer.{RowAnswer}
+use Rattle.calendar.specs.declared.Day.{Day}
+use Rattle.calendar.specs.declared.DayAnswer.{DayAnswer}
+use Rattle.calendar.specs.declared.Date.{Date}
+use Rattle.calendar.specs.declared.DateAnswer.{DateAnswer}
+
+abbrev pub headNumber : HeadAnswer → ℕ
+headNumber (HeadAnswer.Answered head) = 0
+headNumber (HeadAnswer.Refused e) = numberOf e
+
+abbrev pub zeroHead : YearHead
+zeroHead = record { before = 0; remainder = 0; months = 0; leap = 0; solstice = record { day = 0; remainder = record { parts = 0 } } }
+
+abbrev pub headValues : HeadAnswer → YearHead
+headValues (HeadAnswer.Answered head) = head
+headValues (HeadAnswer.Refused e) = zeroHead
+
+abbrev pub rowNumber : RowAnswer → ℕ
+rowNumber (RowAnswer.Answered row) = 0
+rowNumber (RowAnswer.Refused e) = numberOf e
+
+abbrev pub zeroRow : MonthRow
+zeroRow = record { lunation = 0; year = 0; place = 0; number = 0; leap = false; day = 0; remainder = record { parts = 0 }; length = 0 }
+
+abbrev pub rowValues : RowAnswer → MonthRow
+rowValues (RowAnswer.Answered row) = row
+rowValues (RowAnswer.Refused e) = zeroRow
+
+abbrev pub dayNumber : DayAnswer → ℕ
+dayNumber (DayAnswer.Answered day) = 0
+dayNumber (DayAnswer.Refused e) = numberOf e
+
+abbrev pub zeroDay : Day
+zeroDay = record { number = 0; sexagenary = 0 }
+
+abbrev pub dayValues : DayAnswer → Day
+dayValues (DayAnswer.Answered day) = day
+dayValues (DayAnswer.Refused e) = zeroDay
+
+abbrev pub dateNumber : DateAnswer → ℕ
+dateNumber (DateAnswer.Answered date) = 0
+dateNumber (DateAnswer.Refused e) = numberOf e
+
+abbrev pub zeroDate : Date
+zeroDate = record { year = 0; place = 0; day = 0 }
+
+abbrev pub dateValues : DateAnswer → Date
+dateValues (DateAnswer.Answered date) = date
+dateValues (DateAnswer.Refused e) = zeroDate

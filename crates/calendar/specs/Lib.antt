@@ -1,0 +1,4 @@
+pub mod Heads
+pub mod Rows
+pub mod Dates
+pub mod Answers

@@ -1,0 +1,66 @@
+// The Xinghe calendar: year heads, month rows, and dates and day numbers, for every input.
+// A year is written from 1; a place is a month's index in its year, from 0; a day number is counted from the origin, from 0.
+use refusal::Refusal;
+use sun::Solstice;
+use units::remainder::DayRemainder;
+ghost use mathlib.Core.Path.{_≡_};
+
+pub mod answers;
+pub mod dates;
+pub mod heads;
+pub mod rows;
+
+// A year: the months before it (積月), its leap remainder (閏餘), its month count, its leap place (0 for none) and its winter solstice.
+pub struct YearHead {
+    pub before: u64,
+    pub remainder: u64,
+    pub months: u64,
+    pub leap: u64,
+    pub solstice: Solstice,
+}
+
+pub enum HeadAnswer {
+    Answered(YearHead),
+    Refused(Refusal),
+}
+
+// A month: its number in the round (積月), its year and place, its month number (11 at place 0), whether it is the leap month (閏月), and
+// its first day with the small remainder (小餘) of its new moon, and its length.
+pub struct MonthRow {
+    pub lunation: u64,
+    pub year: u64,
+    pub place: u64,
+    pub number: u64,
+    pub leap: bool,
+    pub day: u64,
+    pub remainder: DayRemainder,
+    pub length: u64,
+}
+
+pub enum RowAnswer {
+    Answered(MonthRow),
+    Refused(Refusal),
+}
+
+// A day: its number and its day of the sixty (大餘).
+pub struct Day {
+    pub number: u64,
+    pub sexagenary: u64,
+}
+
+pub enum DayAnswer {
+    Answered(Day),
+    Refused(Refusal),
+}
+
+// A date: a year, a place and a day of the month, from 1.
+pub struct Date {
+    pub year: u64,
+    pub place: u64,
+    pub day: u64,
+}
+
+pub enum DateAnswer {
+    Answered(Date),
+    Refused(Refusal),
+}

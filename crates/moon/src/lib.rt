@@ -1,0 +1,31 @@
+// Functions of the lunation alone: lunations are counted from 0 at the origin.
+use units::Xinghe;
+use units::remainder::DayRemainder;
+ghost use mathlib.Core.Path.{_≡_};
+ghost use Prim.Native.Nat.{_<_};
+ghost use Rattle.moon.specs.NewMoons.{newMoonOf, lengthOf};
+
+// The mean new moon: its day and small remainder.
+pub struct NewMoon {
+    pub day: u64,
+    pub remainder: DayRemainder,
+}
+
+pub fn new_moon(lunation: u64) -> NewMoon
+    requires { ⌜ lunation < 16777216 ⌝ }
+    ensures { λ r. ⌜ r ≡ newMoonOf lunation ⌝ }
+{
+    let carried = DayRemainder { parts: 0 }.carry(lunation * Xinghe::P);
+    let remainder = carried.remainder;
+    NewMoon {
+        day: carried.days,
+        remainder,
+    }
+}
+
+// The length of the month whose new moon has this remainder.
+pub fn length_of(remainder: DayRemainder) -> u64
+    ensures { λ r. ⌜ r ≡ lengthOf remainder ⌝ }
+{
+    if 97883 <= remainder.parts { 30 } else { 29 }
+}

@@ -1,0 +1,9 @@
+pub mod Searches
+pub mod Climbs
+pub mod Rates
+pub mod Laws
+pub mod Leaps
+pub mod Rows
+pub mod Days
+pub mod Moons
+pub mod Chapters

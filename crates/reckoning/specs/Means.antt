@@ -1,0 +1,24 @@
+-- The mean moon and sun of a calendar: a year is yearNum/yearDen days, a month monthNum/monthDen days.
+-- Assumes nothing.
+use Prim.Native.Nat.{ℕ, _*_, _/_, _%_, _≤_, _<_}
+
+pub record Means : Type 0 where
+  pub yearNum : ℕ
+  pub yearDen : ℕ
+  pub monthNum : ℕ
+  pub monthDen : ℕ
+
+module _ (M : Means) where
+  -- the day on which month m begins, and its small remainder (小餘)
+  unfoldable pub newMoon : ℕ → ℕ
+  newMoon m = m * M .monthNum / M .monthDen
+
+  unfoldable pub newMoonRest : ℕ → ℕ
+  newMoonRest m = m * M .monthNum % M .monthDen
+
+-- what the laws ask of the constants: a month of 29 to 30 days
+pub record MonthBound (M : Means) : Type 0 where
+  pub den : 0 < M .monthDen
+  pub num : 0 < M .monthNum
+  pub short : 29 * M .monthDen ≤ M .monthNum
+  pub long : M .monthNum ≤ 30 * M .monthDen

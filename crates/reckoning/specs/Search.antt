@@ -1,0 +1,24 @@
+-- Choices and bounded searches, as the other definitions use them. Each computes.
+-- Assumes nothing.
+use mathlib.Core.Bool.{Bool, true, false, _&&_}
+use Prim.Native.Nat.{ℕ, zero, suc}
+use lib.Dec.{leb, ltb}
+
+-- the first if the test passes, else the second
+abbrev pub pick {ℓ} : {A : Type ℓ} → Bool → A → A → A
+pick true a b = a
+pick false a b = b
+
+-- a ≤ x < b
+unfoldable pub between : ℕ → ℕ → ℕ → Bool
+between a x b = leb a x && ltb x b
+
+-- the test passes at one of the first n numbers
+unfoldable pub any : (ℕ → Bool) → ℕ → Bool
+any f zero = false
+any f (suc n) = pick (f n) true (any f n)
+
+-- the first of the n numbers from p on at which the test passes; 0 if there is none
+unfoldable pub firstFrom : (ℕ → Bool) → ℕ → ℕ → ℕ
+firstFrom f p zero = 0
+firstFrom f p (suc n) = pick (f p) p (firstFrom f (suc p) n)

@@ -1,0 +1,39 @@
+// Why a job refuses, and the number that it returns then (01, "Numbers returned").
+ghost use mathlib.Core.Path.{_≡_};
+ghost use Rattle.refusal.specs.Numbers.{numberOf};
+
+pub enum Refusal {
+    // a year outside the calendar's years
+    Year,
+    // a place not below the year's month count
+    Place,
+    // a day of the month that is 0 or past the month's length
+    DayOfMonth,
+    // a handed-in row that is not the row of the month it names, or that names none
+    Row,
+    // a carry that would end outside the round
+    Carry,
+    // a lent list shorter than the year's month count
+    List,
+    // a day number past the calendar's days
+    Day,
+    // a cut of the year other than 24, 60 and 72, or a point not below the cut
+    Cut,
+}
+
+impl Refusal {
+    pub fn number(self) -> u64
+        ensures { λ r. ⌜ r ≡ numberOf self ⌝ }
+    {
+        match self {
+            Refusal::Year => 1,
+            Refusal::Place => 2,
+            Refusal::DayOfMonth => 3,
+            Refusal::Row => 4,
+            Refusal::Carry => 5,
+            Refusal::List => 6,
+            Refusal::Day => 7,
+            Refusal::Cut => 8,
+        }
+    }
+}

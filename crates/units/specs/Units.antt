@@ -1,0 +1,20 @@
+-- The units (01, "How to write each place"): a remainder over N and a remainder over D are carried each by its own function.
+-- Assumes nothing.
+use Prim.Native.Nat.{ℕ, _+_, _/_, _%_}
+use Rattle.units.specs.Xinghe.{N, D}
+use Rattle.units.specs.declared.remainder.DayRemainder.{DayRemainder}
+use Rattle.units.specs.declared.remainder.DegreeRemainder.{DegreeRemainder}
+use Rattle.units.specs.declared.remainder.DayCarry.{DayCarry}
+use Rattle.units.specs.declared.remainder.DegreeCarry.{DegreeCarry}
+
+-- parts over N added to a remainder over N: whole N's are days
+abbrev pub dayCarry : DayRemainder → ℕ → DayCarry
+dayCarry r parts = record { days = (r .parts + parts) / N; remainder = record { parts = (r .parts + parts) % N } }
+
+-- parts over D added to a remainder over D: whole D's are days
+abbrev pub degreeCarry : DegreeRemainder → ℕ → DegreeCarry
+degreeCarry r parts = record { days = (r .parts + parts) / D; remainder = record { parts = (r .parts + parts) % D } }
+
+-- the day of the sixty (大餘): day 0 is jiazi, which is numbered 0
+abbrev pub sexagenaryOf : ℕ → ℕ
+sexagenaryOf day = day % 60

@@ -1,0 +1,55 @@
+-- The Xinghe calendar's numbers (01, "Numbers that everything stands on"), named once.
+-- Assumes nothing.
+use Prim.Native.Nat.{ℕ}
+use Rattle.reckoning.specs.Rule.{Rule}
+use Rattle.reckoning.specs.Means.{Means}
+use Rattle.lunisolar.specs.Calendars.{meansOf, ruleOf}
+use Rattle.lunisolar.specs.declared.Constants.{Constants}
+
+-- the day divisor (日法)
+abbrev pub N : ℕ
+N = 208530
+
+-- the degree divisor (度法, 蔀法)
+abbrev pub D : ℕ
+D = 16860
+
+-- the days of the year over D and of the month over N (周天, 通數)
+abbrev pub P : ℕ
+P = 6158017
+
+-- a chapter: its years (章歲), leap months (章閏) and months (章月)
+abbrev pub chapterYears : ℕ
+chapterYears = 562
+
+abbrev pub chapterLeaps : ℕ
+chapterLeaps = 207
+
+abbrev pub chapterMonths : ℕ
+chapterMonths = 6951
+
+-- the great round (元): its years, numbered from 1, its months and days, numbered from 0
+abbrev pub roundYears : ℕ
+roundYears = 1011600
+
+abbrev pub roundMonths : ℕ
+roundMonths = 12511800
+
+abbrev pub roundDays : ℕ
+roundDays = 369481020
+
+-- a month has 30 days from this small remainder on
+abbrev pub longFrom : ℕ
+longFrom = 97883
+
+abbrev pub xinghe : Constants
+xinghe =
+    record { year = P; degree = D; month = P; day = N; chapter = chapterYears; lunations = chapterMonths; first = 1; years = roundYears }
+
+-- the year is P/D days, the month P/N days
+abbrev pub means : Means
+means = meansOf xinghe
+
+-- its leap rule
+abbrev pub rule : Rule
+rule = ruleOf xinghe
