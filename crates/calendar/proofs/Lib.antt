@@ -3,3 +3,4 @@ pub mod LeapMonths
 pub mod Months
 pub mod Days
 pub mod Refusals
+pub mod Lawful

@@ -6,6 +6,7 @@ use units::remainder::DayRemainder;
 ghost use mathlib.Core.Path.{_≡_};
 
 pub mod answers;
+pub mod carries;
 pub mod dates;
 pub mod heads;
 pub mod rows;

@@ -1,0 +1,94 @@
+-- DEMAND 3: walking and direct working are one thing. One statement, `demand-3`, over every genuine row and every list of whole numbers.
+-- `carried` is what `MonthRow::carry` answers, and `walked` what `walk` answers, by their contracts.
+-- Assumes nothing.
+use Prim.Native.Nat.{ℕ, suc, _<_}
+use mathlib.Core.Path.{_≡_, refl, sym, ap, _∙_}
+use mathlib.Core.Bool.{Bool, true, false}
+use mathlib.Core.List.{List, [], _∷_, _++_, map}
+use mathlib.Core.Logic.{_↔_}
+use native.Mathlib.Omega.{arith}
+use lib.IntN.{ℤ, pos, negℤ, _+ℤ_}
+use Rattle.refusal.specs.declared.Refusal.{Refusal}
+use Rattle.walking.specs.Walk.{answered, refused, genuine, carry, walk, along}
+use Rattle.walking.specs.Paper.{last, paper}
+use Rattle.walking.proofs.Walks.{Inside, genuine-row, row-genuine, four}
+use Rattle.walking.proofs.Theorem as over-any
+use Rattle.units.specs.Xinghe.{roundMonths}
+use Rattle.moon.specs.NewMoons.{monthlyAddition}
+use Rattle.calendar.specs.Rows.{rowOf}
+use Rattle.calendar.specs.Carries.{months, shown, carried}
+use Rattle.calendar.specs.declared.MonthRow.{MonthRow}
+use Rattle.calendar.specs.declared.RowAnswer.{RowAnswer}
+use Rattle.calendar.proofs.Lawful.{lawful, shown-answered, shown-refused}
+use Rattle.calendar.proofs.Months.{moonOf, monthly}
+use Rattle.walk.specs.Walked.{walked, Genuine}
+
+-- the month in which 01's walk over cs ends, which keeps only the month, from the row's
+abbrev pub monthAfter : MonthRow → List ℤ → ℕ
+monthAfter r cs = last months (r .lunation) cs
+
+-- what holds of a walk from the row r over the counts cs
+pub record Walking (r : MonthRow) (cs : List ℤ) : Type 0 where
+  -- its answers, number and row in every field, are those of 01's walk
+  pub answers : map shown (along months r cs) ≡ map shown (paper months (r .lunation) cs)
+  -- it ends at the row worked out from the origin for the first row's month plus the sum of the answered counts, in whole numbers
+  pub in-round : monthAfter r cs < roundMonths
+  pub row : walked r cs .row ≡ rowOf (monthAfter r cs)
+  pub sum : pos (monthAfter r cs) ≡ pos (r .lunation) +ℤ walked r cs .sum
+  -- which is the row that one carry of the first row by that sum gives
+  pub once : carried r (walked r cs .sum) ≡ RowAnswer.Answered (walked r cs .row)
+  -- a carry that follows is refused exactly when it would end outside the round, then under 5, and the walk stays where it was
+  pub refused-when : (c : ℤ) → (carried (walked r cs .row) c ≡ RowAnswer.Refused Refusal.Carry) ↔ (Inside roundMonths (pos (monthAfter r cs) +ℤ c) → ⊥)
+  pub stays : (c : ℤ) (e : Refusal) → carried (walked r cs .row) c ≡ RowAnswer.Refused e → (e ≡ Refusal.Carry) × (walked r (cs ++ c ∷ []) .row ≡ walked r cs .row)
+  -- carrying by nought changes nothing, and carrying back undoes carrying on
+  pub by-nought : carried (walked r cs .row) (pos 0) ≡ RowAnswer.Answered (walked r cs .row)
+  pub undone : (c : ℤ) (s : MonthRow) → carried (walked r cs .row) c ≡ RowAnswer.Answered s → carried s (negℤ c) ≡ RowAnswer.Answered (walked r cs .row)
+
+pub record Demand3 : Type 0 where
+  pub walking : (r : MonthRow) → Genuine r → (cs : List ℤ) → Walking r cs
+  -- the treatise's monthly addition gives the next row's day and remainder at every month that has one
+  pub addition : (m : ℕ) → suc m < roundMonths → moonOf (rowOf (suc m)) ≡ monthlyAddition (moonOf (rowOf m))
+  -- refusal 4 is given for every row that is not genuine, and for no genuine row
+  pub forged : (r : MonthRow) (c : ℤ) → (carried r c ≡ RowAnswer.Refused Refusal.Row) ↔ (Genuine r → ⊥)
+
+-- the test that the code makes is that a row is genuine
+pub tested : (r : MonthRow) → Genuine r → genuine months r ≡ true
+tested r g = rw (g .is-row) (row-genuine months lawful (r .lunation) (g .in-round))
+
+pub passes : (r : MonthRow) → genuine months r ≡ true → Genuine r
+passes r g = let p = genuine-row months lawful r g in record { in-round = p .0; is-row = p .1 }
+
+fails : (r : MonthRow) → (Genuine r → ⊥) → genuine months r ≡ false
+fails r h = go (genuine months r) refl
+  where
+    go : (b : Bool) → genuine months r ≡ b → genuine months r ≡ false
+    go true e = absurd (h (passes r e))
+    go false e = e
+
+walk-of : (r : MonthRow) → Genuine r → (cs : List ℤ) → Walking r cs
+walk-of r g cs =
+    let w = over-any.demand-3 months lawful r (tested r g) cs in
+    let here : MonthRow = walk months r cs in
+    record {
+      answers = ap (map shown) (w .answers);
+      in-round = w .in-round;
+      row = w .row;
+      sum = w .sum;
+      once = ap shown (w .once);
+      refused-when = λ c. (λ e. w .refused-when c .0 (shown-refused (carry months here c) Refusal.Carry (sym e)), λ out. ap shown (w .refused-when c .1 out));
+      stays = λ c e h. w .stays-put c e (shown-refused (carry months here c) e (sym h));
+      by-nought = ap shown (w .by-nought);
+      undone = λ c s e. ap shown (w .undone c s (shown-answered (carry months here c) s (sym e)));
+    }
+
+pub demand-3 : Demand3
+demand-3 =
+    record {
+      walking = walk-of;
+      addition = monthly;
+      forged = λ r c. (
+        λ e g. let f : genuine months r ≡ false = four months lawful r c .0 (shown-refused (carry months r c) Refusal.Row (sym e)) in
+            let bad : _≡_ {A = ℕ} 0 1 = cc (tested r g) in omega arith,
+        λ h. ap shown (four months lawful r c .1 (fails r h)),
+      );
+    }

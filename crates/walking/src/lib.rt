@@ -1,0 +1,62 @@
+// Months of a round and signed counts: the only code with signed numbers. specs/Walk.antt has the carry and the walk over any row.
+ghost use mathlib.Core.Path.{_≡_};
+ghost use Prim.Native.Nat.{_-_, _<_};
+ghost use lib.IntN.{pos, _+ℤ_, _-ℤ_};
+ghost use Rattle.walking.specs.Signed.{signOf, targetOf};
+
+// A whole number by its sign: Up(n) is n and Down(n) is -(n + 1), so that every i64 has its side and none overflows.
+pub enum Sign {
+    Up(u64),
+    Down(u64),
+}
+
+pub fn sign_of(count: i64) -> Sign
+    ensures { λ r. ⌜ r ≡ signOf count ⌝ }
+{
+    if count < 0 {
+        Sign::Down((-1 - count) as u64)
+    } else {
+        Sign::Up(count as u64)
+    }
+}
+
+// Where a count leads: to a month of the round, or outside.
+pub enum Target {
+    Month(u64),
+    Outside,
+}
+
+// The month so many months on from a month of a round of that size, in whole numbers.
+pub fn reach(size: u64, month: u64, count: i64) -> Target
+    requires { ⌜ month < size ⌝ }
+    ensures { λ r. ⌜ r ≡ targetOf size (pos month +ℤ count) ⌝ }
+{
+    match sign_of(count) {
+        Sign::Up(n) => {
+            if n < size - month {
+                Target::Month(month + n)
+            } else {
+                Target::Outside
+            }
+        }
+        Sign::Down(n) => {
+            if n < month {
+                Target::Month(month - 1 - n)
+            } else {
+                Target::Outside
+            }
+        }
+    }
+}
+
+// How many months one month lies after another, in whole numbers.
+pub fn difference(to: u64, from: u64) -> i64
+    requires { ⌜ (to - from < 9223372036854775808) × (from - to < 9223372036854775808) ⌝ }
+    ensures { λ r. ⌜ r ≡ pos to -ℤ pos from ⌝ }
+{
+    if from <= to {
+        (to - from) as i64
+    } else {
+        -1 - ((from - to - 1) as i64)
+    }
+}
