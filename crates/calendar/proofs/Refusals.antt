@@ -36,7 +36,7 @@ isDay n p i = between 1 i (suc (rowOf (rule .before (n - 1) + p) .length))
 
 -- what is made of a year that is sought, and of a place in it
 module _ {B : Type 0} (f : LunationAnswer → B) where
-  of-place : (n p : ℕ) → f (lunationAt xinghe n p) ≡
+  pub of-place : (n p : ℕ) → f (lunationAt xinghe n p) ≡
       pick (isYear n) (pick (isPlace n p) (f (LunationAnswer.Lunation (rule .before (n - 1) + p))) (f (LunationAnswer.Refused Refusal.Place))) (f (LunationAnswer.Refused Refusal.Year))
   unfolding yearAt lunationIn
   of-place n p =

@@ -92,6 +92,9 @@ found n p m e =
     let q : f .year ≡ n - 1 = omega (arith, f .found .written) in
     (omega (arith, f .found .written), rw (← q) (record { year = f .found .upto; place = f .place; month = f .month }))
 
+pub lunation-in-round : (n p m : ℕ) → LunationAnswer.Lunation m ≡ lunationAt xinghe n p → m < roundMonths
+lunation-in-round n p m e = in-round (n - 1) p m (found n p m e .1)
+
 -- the new moons climb, so each day lies in one month
 pub days-climb : Climbs (newMoon means)
 days-climb = moons-climb means (sound .moon)

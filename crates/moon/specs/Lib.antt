@@ -1,1 +1,2 @@
 pub mod NewMoons
+pub mod Phases

@@ -5,6 +5,8 @@ ghost use mathlib.Core.Path.{_≡_};
 ghost use Prim.Native.Nat.{_<_};
 ghost use Rattle.moon.specs.NewMoons.{newMoonOf, lengthOf};
 
+pub mod phases;
+
 // The mean new moon: its day and small remainder.
 pub struct NewMoon {
     pub day: u64,

@@ -48,11 +48,11 @@ same-or a b =
 pub not-ltb : (a b : ℕ) → ¬ (T (ltb a b)) → b ≤ a
 not-ltb a b h = ltb-false a b (T-false (ltb a b) h)
 
-both-left : (a b : Bool) → T (a && b) → T a
+pub both-left : (a b : Bool) → T (a && b) → T a
 both-left true b t = tt
 both-left false b t = t
 
-both-right : (a b : Bool) → T (a && b) → T b
+pub both-right : (a b : Bool) → T (a && b) → T b
 both-right true b t = t
 both-right false b t = absurd t
 
@@ -136,3 +136,16 @@ module _ (f : ℕ → Bool) where
   -- where the test passes at n there is a first number at which it does
   pub least : (n : ℕ) → T (f n) → Least n
   least n t = least-from n t n 0 (omega arith) (λ q h. absurd (omega arith))
+
+-- a test that passes at each number below n: computed once over a table, it is the rule at each entry
+abbrev pub all : (ℕ → Bool) → ℕ → Bool
+all f zero = true
+all f (suc n) = f n && all f n
+
+pub all-at : (f : ℕ → Bool) (n : ℕ) → T (all f n) → (k : ℕ) → k < n → T (f k)
+all-at f zero t k h = absurd (omega arith)
+all-at f (suc n) t k h =
+    ⊎-elim
+    (λ (e : n ≤ k). let q : n ≡ k = omega arith in moved f q (both-left (f n) (all f n) t))
+    (λ (e : k < n). all-at f n (both-right (f n) (all f n) t) k e)
+    (le-or-lt n k)

@@ -11,9 +11,16 @@ use Rattle.moon.specs.NewMoons.{newMoonOf, lengthOf}
 use Rattle.calendar.specs.Heads.{headOf, headAt}
 use Rattle.calendar.specs.Rows.{rowOf, rowAt}
 use Rattle.calendar.proofs.Round.{year-closed}
+use Rattle.node.specs.Eclipses.{distanceOf, eclipseAt, eclipseOf, noEclipse, nodeAt}
+use Rattle.node.specs.Sides.{passed, sideOf}
+use Rattle.node.specs.Nodes.{nodesOf}
+use Rattle.anomaly.specs.Rates.{sumOf}
+use Rattle.anomaly.specs.Amounts.{amountOf, correctionOn}
+use Rattle.anomaly.specs.Corrections.{anomalyAt, correctionAt, moved, correctedAt, correctionsOf}
+use Rattle.ephemeris.specs.Jobs.{nodesIn, correctionsIn}
 use Rattle.starred.specs.Cases.{table, All}
 
 pub starred : All table
-unfolding between firstFrom any monthCount isLeap leapPlace monthNumber placeOf newMoon newMoonRest instants instantIn yearAt lunationIn solsticeOf newMoonOf lengthOf headOf headAt rowOf rowAt
+unfolding between firstFrom any monthCount isLeap leapPlace monthNumber placeOf newMoon newMoonRest instants instantIn yearAt lunationIn solsticeOf newMoonOf lengthOf headOf headAt rowOf rowAt distanceOf eclipseAt eclipseOf noEclipse nodeAt passed sideOf nodesOf sumOf amountOf correctionOn anomalyAt correctionAt moved correctedAt correctionsOf nodesIn correctionsIn
 starred =
-    (refl, ((rw (year-closed 0) refl, refl), (refl, (refl, (refl, (refl, ((rw (year-closed 12511799) refl, refl), (refl, (refl, ((rw (year-closed 3636238) refl, refl), tt))))))))))
+    (refl, ((rw (year-closed 0) refl, refl), (refl, (refl, (refl, (refl, ((rw (year-closed 12511799) refl, refl), (refl, ((refl, refl, refl, refl, refl), ((refl, refl, refl, refl), (refl, ((rw (year-closed 3636238) refl, refl), ((refl, refl, refl, refl, refl), ((refl, refl), tt))))))))))))))

@@ -1,1 +1,2 @@
 pub mod Solstices
+pub mod Points

@@ -2,8 +2,9 @@
 use units::Xinghe;
 use units::remainder::DegreeRemainder;
 ghost use mathlib.Core.Path.{_≡_};
-ghost use Prim.Native.Nat.{_<_};
+ghost use Prim.Native.Nat.{_≤_, _<_};
 ghost use Rattle.sun.specs.Solstices.{solsticeOf};
+ghost use Rattle.sun.specs.Points.{pointOf};
 
 // The winter solstice: its day and remainder over D.
 pub struct Solstice {
@@ -20,5 +21,27 @@ pub fn winter_solstice(y: u64) -> Solstice
     Solstice {
         day: carried.days,
         remainder,
+    }
+}
+
+// A point of a cut of the year: its day, its remainder over D, and the rest of a part over the cut.
+pub struct Point {
+    pub day: u64,
+    pub remainder: DegreeRemainder,
+    pub rest: u64,
+}
+
+// Point `index` of the year cut in `cut` equal parts.
+pub fn point_of(y: u64, cut: u64, index: u64) -> Point
+    requires { ⌜ (y < 1048576) × (0 < cut) × (cut ≤ 72) × (index < cut) ⌝ }
+    ensures { λ r. ⌜ r ≡ pointOf y cut index ⌝ }
+{
+    let over = (y * cut + index) * Xinghe::P;
+    let carried = DegreeRemainder { parts: 0 }.carry(over / cut);
+    let remainder = carried.remainder;
+    Point {
+        day: carried.days,
+        remainder,
+        rest: over % cut,
     }
 }

@@ -18,6 +18,18 @@ D = 16860
 abbrev pub P : ℕ
 P = 6158017
 
+-- the node half-round (會通)
+abbrev pub M : ℕ
+M = 36142807
+
+-- the anomaly round (通周)
+abbrev pub T : ℕ
+T = 5745941
+
+-- the small circuit (小周)
+abbrev pub C : ℕ
+C = 7513
+
 -- a chapter: its years (章歲), leap months (章閏) and months (章月)
 abbrev pub chapterYears : ℕ
 chapterYears = 562
@@ -27,6 +39,13 @@ chapterLeaps = 207
 
 abbrev pub chapterMonths : ℕ
 chapterMonths = 6951
+
+-- an era (紀): its years and months
+abbrev pub eraYears : ℕ
+eraYears = 168600
+
+abbrev pub eraMonths : ℕ
+eraMonths = 2085300
 
 -- the great round (元): its years, numbered from 1, its months and days, numbered from 0
 abbrev pub roundYears : ℕ

@@ -25,10 +25,22 @@ impl Xinghe {
     // the days of the year over D and of the month over N (周天, 通數)
     pub const P: u64 = 6158017;
 
+    // the node half-round (會通)
+    pub const M: u64 = 36142807;
+
+    // the anomaly round (通周)
+    pub const T: u64 = 5745941;
+
+    // the small circuit (小周)
+    pub const C: u64 = 7513;
+
     // the years and the months of a chapter (章歲, 章月)
     pub const CHAPTER: u64 = 562;
 
     pub const LUNATIONS: u64 = 6951;
+
+    // the months of an era (紀)
+    pub const ERA: u64 = 2085300;
 
     // the great round (元): its years, months and days
     pub const YEARS: u64 = 1011600;

@@ -10,11 +10,11 @@ use Rattle.walking.specs.declared.Sign.{Sign}
 use Rattle.walking.specs.declared.Target.{Target}
 
 -- a number by its side
-is-up : (n : ℕ) (z : ℤ) → Sign.Up n ≡ signOf z → z ≡ pos n
+pub is-up : (n : ℕ) (z : ℤ) → Sign.Up n ≡ signOf z → z ≡ pos n
 is-up n (pos m) e = cc
 is-up n (negsuc m) e = cc
 
-is-down : (n : ℕ) (z : ℤ) → Sign.Down n ≡ signOf z → z ≡ negsuc n
+pub is-down : (n : ℕ) (z : ℤ) → Sign.Down n ≡ signOf z → z ≡ negsuc n
 is-down n (pos m) e = cc
 is-down n (negsuc m) e = cc
 

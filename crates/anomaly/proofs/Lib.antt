@@ -1,0 +1,5 @@
+pub mod Whole
+pub mod Sums
+pub mod Moves
+pub mod Fair
+pub mod Instants

@@ -1,0 +1,47 @@
+use Rattle.anomaly.specs.Corrections.{correctionAt}
+use Rattle.anomaly.proofs.Fair.{day-at}
+use borrow.Author.Needs.{needs}
+use Rattle.anomaly.proofs.correction_at.Statement.{statement}
+use Rattle.anomaly.proofs.correction_at.Tie as tie
+
+mul-since : tie.Need-mul-since
+mul-since c = search needs
+
+rem-since : tie.Need-rem-since
+rem-since c = search needs
+
+mul-day : tie.Need-mul-day
+mul-day c = search needs
+
+div-day : tie.Need-div-day
+div-day c = search needs
+
+add-day : tie.Need-add-day
+add-day c = search needs
+
+mul-rest : tie.Need-mul-rest
+mul-rest c = search needs
+
+rem-rest : tie.Need-rem-rest
+rem-rest c = search needs
+
+correction-on-requires : tie.Need-correction-on-requires
+correction-on-requires c κs = day-at (c .args .instant)
+
+returns : tie.Need-returns
+unfolding correctionAt
+returns c = c .correction-on .ensures
+
+pub correction-at-spec : {M : Type 1} → statement M
+correction-at-spec =
+    tie.close
+    (tie.spec
+    mul-since
+    rem-since
+    mul-day
+    div-day
+    add-day
+    mul-rest
+    rem-rest
+    correction-on-requires
+    returns)

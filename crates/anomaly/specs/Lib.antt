@@ -1,0 +1,3 @@
+pub mod Rates
+pub mod Amounts
+pub mod Corrections

@@ -1,0 +1,22 @@
+use borrow.Author.Needs.{needs}
+use Rattle.ephemeris.proofs.CorrectionsAnswer.values.Statement.{statement}
+use Rattle.ephemeris.proofs.CorrectionsAnswer.values.Tie as tie
+
+enum-known-self : tie.Need-enum-known-self
+enum-known-self c = search needs
+
+enum-told : tie.Need-enum-told
+enum-told c = search needs
+
+zero-corrections-requires : tie.Need-zero-corrections-requires
+zero-corrections-requires c κs = search needs
+
+returns : tie.Need-returns
+returns c = rw (c .before .self .given .1)
+
+returns-2 : tie.Need-returns-2
+returns-2 c = search needs
+
+pub values-spec : {M : Type 1} → statement M
+values-spec =
+    tie.close (tie.spec enum-known-self enum-told zero-corrections-requires returns returns-2)

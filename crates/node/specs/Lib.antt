@@ -1,0 +1,3 @@
+pub mod Eclipses
+pub mod Sides
+pub mod Nodes

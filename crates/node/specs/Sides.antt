@@ -1,0 +1,47 @@
+-- The moon's side of the road at a new moon (01, "Nodes and eclipses").
+-- Assumes nothing.
+use mathlib.Core.List.{List, [], _∷_}
+use Prim.Native.Nat.{ℕ, _+_, _*_, _/_, _%_}
+use lib.Dec.{eqb}
+use lib.ListN.{getD}
+use Rattle.reckoning.specs.Search.{pick}
+use Rattle.units.specs.Xinghe.{N, P, M, eraMonths}
+use Rattle.node.specs.declared.Side.{Side}
+use Rattle.node.specs.declared.Head.{Head}
+
+abbrev head : ℕ → ℕ → Side → Head
+head degrees remainder side = record { degrees = degrees; remainder = remainder; side = side }
+
+-- the era heads as 000 prints them: jiazi (at the node, read as outside), jiaxu, jiashen, jiawu, jiachen, jiayin
+abbrev pub heads : List Head
+heads =
+    head 0 0 Side.Outside
+    ∷ head 127 39339 Side.Outside
+    ∷ head 81 11561 Side.Inside
+    ∷ head 34 192313 Side.Inside
+    ∷ head 162 23122 Side.Outside
+    ∷ head 115 203874 Side.Outside
+    ∷ []
+
+-- the head of era e, counted from 0, and that of the month's own era
+abbrev pub headIn : ℕ → Head
+headIn e = getD heads e (head 0 0 Side.AtNode)
+
+abbrev pub headOf : ℕ → Head
+headOf m = headIn (m / eraMonths)
+
+abbrev pub distance : Head → ℕ
+distance h = h .degrees * N + h .remainder
+
+-- the whole M's, where P is added to the head's distance for each month since
+unfoldable pub passed : ℕ → ℕ
+passed m = (distance (headOf m) + m % eraMonths * P) / M
+
+abbrev pub turned : Side → Side
+turned Side.AtNode = Side.AtNode
+turned Side.Outside = Side.Inside
+turned Side.Inside = Side.Outside
+
+-- distance exactly 0 is at the node; an even count of whole M's leaves the head's side, an odd one turns it
+unfoldable pub sideOf : ℕ → Side
+sideOf m = pick (eqb (m * P % M) 0) Side.AtNode (pick (eqb (passed m % 2) 0) (headOf m .side) (turned (headOf m .side)))

@@ -1,0 +1,175 @@
+// The moon's node: the distance since the last node, the side of the road, and eclipses, of a lunation alone.
+// Distances come in halves of a part over N, so that the full moon's are whole numbers.
+use units::Xinghe;
+use units::remainder::DayRemainder;
+ghost use mathlib.Core.Path.{_≡_};
+ghost use Prim.Native.Nat.{_<_};
+ghost use Rattle.units.specs.Xinghe.{roundMonths};
+ghost use Rattle.node.specs.Eclipses.{distanceOf, eclipseAt, eclipseOf, nodeAt};
+ghost use Rattle.node.specs.Sides.{turned, sideOf};
+ghost use Rattle.node.specs.Nodes.{nodesOf};
+
+// Which side of the road the moon stands on (表裏).
+pub enum Side {
+    AtNode,
+    Outside,
+    Inside,
+}
+
+// A distance in degrees, with its remainder over N and the half of a part beside it.
+pub struct Distance {
+    pub degrees: u64,
+    pub remainder: DayRemainder,
+    pub half: u64,
+}
+
+// Whether an eclipse is marked, its distance from the node and its size; zero where none is.
+pub struct Eclipse {
+    pub marked: bool,
+    pub distance: Distance,
+    pub size: u64,
+}
+
+// The distance since the last node (交), and the eclipse there.
+pub struct Node {
+    pub distance: Distance,
+    pub eclipse: Eclipse,
+}
+
+// A month's new moon, with its side, and its full moon.
+pub struct Nodes {
+    pub new: Node,
+    pub side: Side,
+    pub full: Node,
+}
+
+// The distance and the side with which an era begins.
+pub struct Head {
+    pub degrees: u32,
+    pub remainder: u32,
+    pub side: Side,
+}
+
+// The heads of the eras jiazi, jiaxu, jiashen, jiawu, jiachen and jiayin, as 000 prints them.
+const HEADS: [Head; 6] = [
+    Head {
+        degrees: 0,
+        remainder: 0,
+        side: Side::Outside,
+    },
+    Head {
+        degrees: 127,
+        remainder: 39339,
+        side: Side::Outside,
+    },
+    Head {
+        degrees: 81,
+        remainder: 11561,
+        side: Side::Inside,
+    },
+    Head {
+        degrees: 34,
+        remainder: 192313,
+        side: Side::Inside,
+    },
+    Head {
+        degrees: 162,
+        remainder: 23122,
+        side: Side::Outside,
+    },
+    Head {
+        degrees: 115,
+        remainder: 203874,
+        side: Side::Outside,
+    },
+];
+
+fn distance_of(halves: u64) -> Distance
+    ensures { λ r. ⌜ r ≡ distanceOf halves ⌝ }
+{
+    let carried = DayRemainder { parts: 0 }.carry(halves / 2);
+    let remainder = carried.remainder;
+    Distance {
+        degrees: carried.days,
+        remainder,
+        half: halves % 2,
+    }
+}
+
+// An eclipse that many halves from the node.
+fn eclipse_at(halves: u64) -> Eclipse
+    requires { ⌜ halves < 6255900 ⌝ }
+    ensures { λ r. ⌜ r ≡ eclipseAt halves ⌝ }
+{
+    let distance = distance_of(halves);
+    Eclipse {
+        marked: true,
+        distance,
+        size: 15 - distance.degrees,
+    }
+}
+
+// The eclipse at a distance since the last node.
+fn eclipse_of(halves: u64) -> Eclipse
+    requires { ⌜ halves < 72285614 ⌝ }
+    ensures { λ r. ⌜ r ≡ eclipseOf halves ⌝ }
+{
+    if halves <= Xinghe::P {
+        return eclipse_at(halves);
+    }
+    if 2 * Xinghe::M - Xinghe::P <= halves {
+        return eclipse_at(2 * Xinghe::M - halves);
+    }
+    let distance = distance_of(0);
+    Eclipse {
+        marked: false,
+        distance,
+        size: 0,
+    }
+}
+
+fn node_at(halves: u64) -> Node
+    requires { ⌜ halves < 72285614 ⌝ }
+    ensures { λ r. ⌜ r ≡ nodeAt halves ⌝ }
+{
+    let distance = distance_of(halves);
+    let eclipse = eclipse_of(halves);
+    Node { distance, eclipse }
+}
+
+fn turn(side: Side) -> Side
+    ensures { λ r. ⌜ r ≡ turned side ⌝ }
+{
+    match side {
+        Side::AtNode => Side::AtNode,
+        Side::Outside => Side::Inside,
+        Side::Inside => Side::Outside,
+    }
+}
+
+// The side at a new moon: that of the era's head, turned once for each node passed since.
+fn side_of(lunation: u64) -> Side
+    requires { ⌜ lunation < roundMonths ⌝ }
+    ensures { λ r. ⌜ r ≡ sideOf lunation ⌝ }
+{
+    if lunation * Xinghe::P % Xinghe::M == 0 {
+        return Side::AtNode;
+    }
+    let era = (lunation / Xinghe::ERA) as usize;
+    let head = HEADS[era];
+    let distance = (head.degrees as u64) * Xinghe::N + (head.remainder as u64);
+    let since = distance + lunation % Xinghe::ERA * Xinghe::P;
+    let passed = since / Xinghe::M;
+    let side = head.side;
+    if passed % 2 == 0 { side } else { turn(side) }
+}
+
+pub fn nodes_of(lunation: u64) -> Nodes
+    requires { ⌜ lunation < roundMonths ⌝ }
+    ensures { λ r. ⌜ r ≡ nodesOf lunation ⌝ }
+{
+    let new = node_at(2 * (lunation * Xinghe::P % Xinghe::M));
+    let side = side_of(lunation);
+    let full = node_at((2 * lunation + 1) * Xinghe::P % (2 * Xinghe::M));
+    Nodes { new, side, full }
+}

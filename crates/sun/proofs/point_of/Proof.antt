@@ -1,0 +1,38 @@
+use native.Mathlib.Omega.{arith}
+use Prim.Native.Nat.{_+_, _*_, _≤_}
+use native.Mathlib.Nat.{zero-add, div-le-self}
+use Rattle.lunisolar.proofs.Laws.{product}
+use Rattle.units.specs.Xinghe.{P}
+use Rattle.sun.specs.Points.{pointOf}
+use borrow.Author.Needs.{needs}
+use Rattle.sun.proofs.point_of.Statement.{statement}
+use Rattle.sun.proofs.point_of.Tie as tie
+
+room : (a : tie.Start) → a .args .y * a .args .cut ≤ 1048576 * 72
+room a = product (a .args .y) (a .args .cut) 1048576 72 (omega arith) (omega arith)
+
+mul-over : tie.Need-mul-over
+mul-over c = omega (arith, room c)
+
+add-over : tie.Need-add-over
+add-over c = omega (arith, room c)
+
+mul-over-2 : tie.Need-mul-over-2
+mul-over-2 c = omega (arith, room c)
+
+div-carry : tie.Need-div-carry
+div-carry c = search needs
+
+carry-requires : tie.Need-carry-requires
+carry-requires c κs = let a = c .args in omega (arith, room c, div-le-self ((a .y * a .cut + a .index) * P) (a .cut))
+
+rem-t8 : tie.Need-rem-t8
+rem-t8 c = search needs
+
+returns : tie.Need-returns
+unfolding pointOf
+returns c = rw (c .before .carry .ensures, zero-add)
+
+pub point-of-spec : {M : Type 1} → statement M
+point-of-spec =
+    tie.close (tie.spec mul-over add-over mul-over-2 div-carry carry-requires rem-t8 returns)

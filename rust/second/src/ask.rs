@@ -1,0 +1,68 @@
+//! The questions of the rules paper with their refusals, answered by the walk.
+
+use crate::checkpoints::Checkpoints;
+use crate::instants::{Cut, SunPoint};
+use crate::walker::{Month, Row, Year};
+
+/// Why nothing is answered; the discriminant is the paper's number.
+#[derive(Clone, Copy, Debug, PartialEq, Eq)]
+pub enum Refusal {
+    Year = 1,
+    Place = 2,
+    DayOfMonth = 3,
+    ForgedRow = 4,
+    CarryOutside = 5,
+    DayNumber = 7,
+    Cut = 8,
+}
+
+pub fn year(number: u64) -> Result<Year, Refusal> {
+    Checkpoints::shared().year(number).ok_or(Refusal::Year)
+}
+
+pub fn month(number: u64, place: u64) -> Result<Month, Refusal> {
+    let year = year(number)?;
+    let found = year.months.iter().find(|month| month.row.place == place);
+    found.copied().ok_or(Refusal::Place)
+}
+
+/// The number from the origin of a day of a month; the first day is 1.
+pub fn day_number(year: u64, place: u64, day_of_month: u64) -> Result<u64, Refusal> {
+    let row = month(year, place)?.row;
+    if (1..=row.length).contains(&day_of_month) {
+        Ok(row.day + day_of_month - 1)
+    } else {
+        Err(Refusal::DayOfMonth)
+    }
+}
+
+/// The month in which a day lies, and the day of that month.
+pub fn date(day: u64) -> Result<(Row, u64), Refusal> {
+    let month = Checkpoints::shared().month_of_day(day);
+    let row = month.ok_or(Refusal::DayNumber)?.row;
+    Ok((row, day - row.day + 1))
+}
+
+/// The row carried by a signed count of months.
+pub fn carry(row: &Row, count: i64) -> Result<Row, Refusal> {
+    let round = Checkpoints::shared();
+    let named = round.month(row.lunation).map(|month| month.row);
+    if named.as_ref() != Some(row) {
+        return Err(Refusal::ForgedRow);
+    }
+    row.lunation
+        .checked_add_signed(count)
+        .and_then(|lunation| round.month(lunation))
+        .map(|month| month.row)
+        .ok_or(Refusal::CarryOutside)
+}
+
+/// Point `index` of the cut of a year in `points`.
+pub fn cut_point(number: u64, points: u64, index: u64) -> Result<SunPoint, Refusal> {
+    let year = year(number)?;
+    let mut cuts = Cut::ASKED.into_iter();
+    let cut = cuts.find(|cut| cut.points == points);
+    let cut = cut.filter(|cut| index < cut.points).ok_or(Refusal::Cut)?;
+    let point = year.points(cut).nth(index as usize);
+    Ok(point.expect("a point below the cut"))
+}

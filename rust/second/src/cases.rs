@@ -1,0 +1,218 @@
+//! The cases: full answers for chosen years, then refusals and edges.
+
+use std::fmt::Display;
+use std::io::{self, Write};
+
+use crate::ask::{self, Refusal};
+use crate::checkpoints::Checkpoints;
+use crate::fields;
+use crate::instants::Cut;
+use crate::walker::{Month, Row};
+
+/// Years at the seams of the round, asked after those at even distances.
+const SEAM_YEARS: [u64; 15] = [
+    2, 3, 4, 168_600, 168_601, 293_997, 337_200, 337_201, 505_800, 505_801, 674_400, 674_401,
+    843_000, 843_001, 1_011_600,
+];
+
+pub fn write(out: &mut impl Write) -> io::Result<()> {
+    let spread = (0..=40).map(|i| 1 + 25_289 * i);
+    for year in spread.chain(SEAM_YEARS) {
+        write_year(out, year)?;
+    }
+    for line in edge_lines() {
+        out.write_all(line.as_bytes())?;
+    }
+    Ok(())
+}
+
+fn write_year(out: &mut impl Write, year: u64) -> io::Result<()> {
+    out.write_all(head(year).as_bytes())?;
+    let months = ask::year(year).expect("a year of the round").months;
+    for place in 0..months.len() as u64 {
+        for question in [row, phases, nodes, corrections] {
+            out.write_all(question(year, place).as_bytes())?;
+        }
+    }
+    for index in 0..Cut::TERMS.points {
+        out.write_all(cut(year, Cut::TERMS.points, index).as_bytes())?;
+    }
+    Ok(())
+}
+
+fn edge_lines() -> Vec<String> {
+    let mut lines = vec![head(0), head(1_011_601), head(u64::MAX)];
+    lines.extend([
+        row(0, 0),
+        row(1, 12),
+        row(3, 13),
+        row(1_011_601, 99),
+        row(1, u64::MAX),
+    ]);
+    lines.extend(day_lines());
+    lines.extend([0, 28, 29, 107_380_330, 369_481_019, 369_481_020, u64::MAX].map(date));
+    lines.extend(carry_lines());
+    lines.push(forged(0, 0));
+    lines.extend([phases(1_011_600, 13), nodes(0, 0), corrections(1, 12)]);
+    lines.extend([
+        cut(1, 25, 0),
+        cut(1, 24, 24),
+        cut(0, 25, 99),
+        cut(1, 72, 71),
+        cut(1, 60, 59),
+        cut(1_011_600, 24, 23),
+    ]);
+    lines
+}
+
+fn day_lines() -> [String; 9] {
+    [
+        (1, 0, 29),
+        (1, 0, 30),
+        (1, 0, 0),
+        (1, 1, 30),
+        (1, 12, 0),
+        (0, 99, 99),
+        (1_011_600, 12, 30),
+        (1_011_600, 12, 31),
+        (293_997, 0, 1),
+    ]
+    .map(|(year, place, day_of_month)| day(year, place, day_of_month))
+}
+
+fn carry_lines() -> [String; 9] {
+    [
+        (0, 5),
+        (5, -3),
+        (3_636_238, 0),
+        (12_511_798, 1),
+        (12_511_799, -12_511_799),
+        (12_511_799, 1),
+        (0, -1),
+        (0, i64::MAX),
+        (12_511_799, i64::MIN),
+    ]
+    .map(|(lunation, count)| carry(lunation, count))
+}
+
+fn head(number: u64) -> String {
+    let answer = ask::year(number).map(|year| {
+        joined(&[
+            year.months_before,
+            year.leap_remainder,
+            year.months.len() as u64,
+            year.leap_place,
+            year.solstice.day,
+            year.solstice.remainder,
+        ])
+    });
+    line(format!("head {number}"), answer)
+}
+
+fn row(year: u64, place: u64) -> String {
+    of_month("row", year, place, |month| {
+        let row = &month.row;
+        let sixty = row.day % 60;
+        format!(
+            "{} {} {} {} {sixty} {} {}",
+            row.lunation,
+            row.number,
+            leap_mark(row),
+            row.day,
+            row.remainder,
+            row.length
+        )
+    })
+}
+
+fn phases(year: u64, place: u64) -> String {
+    of_month("phases", year, place, |month| {
+        joined(fields::phases(month).as_flattened())
+    })
+}
+
+fn nodes(year: u64, place: u64) -> String {
+    of_month("nodes", year, place, |month| {
+        let new_moon = joined(&fields::new_moon_node(month));
+        new_moon + " " + &joined(&fields::full_moon_node(month))
+    })
+}
+
+fn corrections(year: u64, place: u64) -> String {
+    of_month("corrections", year, place, |month| {
+        let new_moon = joined(&fields::new_moon_correction(month, 0));
+        new_moon + " " + &joined(&fields::full_moon_correction(month, 0))
+    })
+}
+
+fn cut(year: u64, points: u64, index: u64) -> String {
+    let answer = ask::cut_point(year, points, index).map(|point| joined(&fields::point(&point)));
+    line(format!("cut {year} {points} {index}"), answer)
+}
+
+fn day(year: u64, place: u64, day_of_month: u64) -> String {
+    let answer = ask::day_number(year, place, day_of_month)
+        .map(|number| format!("{number} {}", number % 60));
+    line(format!("day {year} {place} {day_of_month}"), answer)
+}
+
+fn date(number: u64) -> String {
+    let answer = ask::date(number)
+        .map(|(row, day_of_month)| format!("{} {} {day_of_month}", row.year, row.place));
+    line(format!("date {number}"), answer)
+}
+
+fn carry(lunation: u64, count: i64) -> String {
+    let answer = ask::carry(&genuine_row(lunation), count).map(|row| {
+        format!(
+            "-> {} {} {} {} {} {} {} {}",
+            row.lunation,
+            row.year,
+            row.place,
+            row.number,
+            leap_mark(&row),
+            row.day,
+            row.remainder,
+            row.length
+        )
+    });
+    line(format!("carry {lunation} {count}"), answer)
+}
+
+/// A row with one field changed, which no carry may take.
+fn forged(lunation: u64, count: i64) -> String {
+    let mut row = genuine_row(lunation);
+    row.remainder += 1;
+    let answer = ask::carry(&row, count).map(|_| "taken".to_string());
+    line(format!("forged {lunation} {count}"), answer)
+}
+
+fn genuine_row(lunation: u64) -> Row {
+    let month = Checkpoints::shared().month(lunation);
+    month.expect("a month of the round").row
+}
+
+fn leap_mark(row: &Row) -> char {
+    if row.leap {
+        'L'
+    } else {
+        '-'
+    }
+}
+
+fn of_month(question: &str, year: u64, place: u64, answer: impl Fn(&Month) -> String) -> String {
+    let answer = ask::month(year, place).map(|month| answer(&month));
+    line(format!("{question} {year} {place}"), answer)
+}
+
+fn line(question: String, answer: Result<String, Refusal>) -> String {
+    match answer {
+        Ok(values) => format!("{question} {values}\n"),
+        Err(refusal) => format!("{question} refused {}\n", refusal as u8),
+    }
+}
+
+fn joined(values: &[impl Display]) -> String {
+    let words: Vec<String> = values.iter().map(|value| value.to_string()).collect();
+    words.join(" ")
+}

@@ -1,0 +1,83 @@
+//! Two running sums over every number of the walk.
+
+use crate::fields;
+use crate::instants::Cut;
+use crate::walker::{Month, Year};
+
+/// Added to corrections, so that none is negative.
+const CORRECTION_SHIFT: i64 = 1_000_000;
+
+#[derive(Clone, Copy, Debug, PartialEq, Eq)]
+pub struct Digest {
+    h1: u64,
+    h2: u64,
+}
+
+impl Default for Digest {
+    fn default() -> Self {
+        Self { h1: 1, h2: 1 }
+    }
+}
+
+impl Digest {
+    pub fn feed(&mut self, value: u64) {
+        self.h1 = (self.h1 * 65_599 + value) % 4_294_967_291;
+        self.h2 = (self.h2 * 31_337 + value) % 4_294_967_279;
+    }
+
+    fn feed_all(&mut self, values: &[u64]) {
+        for &value in values {
+            self.feed(value);
+        }
+    }
+
+    fn feed_signed(&mut self, values: &[i64]) {
+        for &value in values {
+            self.feed(u64::try_from(value).expect("no negative number is fed"));
+        }
+    }
+
+    /// Both sums of another digest, the first one first.
+    pub fn feed_digest(&mut self, other: &Self) {
+        self.feed(other.h1);
+        self.feed(other.h2);
+    }
+
+    pub fn feed_year(&mut self, year: &Year) {
+        for cut in Cut::ASKED {
+            for point in year.points(cut) {
+                self.feed_all(&fields::point(&point));
+            }
+        }
+        for month in &year.months {
+            self.feed_month(month);
+        }
+    }
+
+    fn feed_month(&mut self, month: &Month) {
+        let row = &month.row;
+        self.feed_all(&[
+            row.lunation,
+            row.year,
+            row.place,
+            row.number,
+            u64::from(row.leap),
+            row.day,
+            row.day % 60,
+            row.remainder,
+            row.length,
+        ]);
+        for phase in fields::phases(month) {
+            self.feed_all(&phase);
+        }
+        self.feed_all(&fields::new_moon_node(month));
+        self.feed_all(&fields::full_moon_node(month));
+        self.feed_signed(&fields::new_moon_correction(month, CORRECTION_SHIFT));
+        self.feed_signed(&fields::full_moon_correction(month, CORRECTION_SHIFT));
+    }
+
+    /// Both sums in one number.
+    pub fn value(&self) -> u64 {
+        (self.h1 << 32) + self.h2
+    }
+}

@@ -1,0 +1,74 @@
+//! A month's answers as plain numbers, in the order in which they are written.
+
+use crate::instants::SunPoint;
+use crate::nodes::Side;
+use crate::walker::Month;
+
+pub fn point(point: &SunPoint) -> [u64; 3] {
+    [point.day, point.remainder, point.rest]
+}
+
+/// Day, remainder and quarters of each of the four phases.
+pub fn phases(month: &Month) -> [[u64; 3]; 4] {
+    month
+        .phases
+        .map(|phase| [phase.day, phase.remainder, phase.quarters])
+}
+
+pub fn new_moon_node(month: &Month) -> [u64; 7] {
+    let node = &month.new_moon_node;
+    let side = match node.side {
+        Side::AtNode => 0,
+        Side::Outside => 1,
+        Side::Inside => 2,
+    };
+    [
+        node.distance.degrees,
+        node.distance.remainder,
+        side,
+        u64::from(node.eclipse.marked),
+        node.eclipse.distance.degrees,
+        node.eclipse.distance.remainder,
+        node.eclipse.size,
+    ]
+}
+
+pub fn full_moon_node(month: &Month) -> [u64; 8] {
+    let node = &month.full_moon_node;
+    [
+        node.distance.degrees,
+        node.distance.remainder,
+        node.distance.half,
+        u64::from(node.eclipse.marked),
+        node.eclipse.distance.degrees,
+        node.eclipse.distance.remainder,
+        node.eclipse.distance.half,
+        node.eclipse.size,
+    ]
+}
+
+/// `shift` is added to the correction: the digest takes no negative numbers.
+pub fn new_moon_correction(month: &Month, shift: i64) -> [i64; 5] {
+    let at = &month.new_moon_correction;
+    [
+        at.anomaly_day as i64,
+        at.rest as i64,
+        at.correction + shift,
+        at.day as i64,
+        at.remainder as i64,
+    ]
+}
+
+/// `shift` as for the new moon.
+pub fn full_moon_correction(month: &Month, shift: i64) -> [i64; 7] {
+    let at = &month.full_moon_correction;
+    [
+        at.anomaly_day as i64,
+        at.rest as i64,
+        at.half as i64,
+        at.correction + shift,
+        at.day as i64,
+        at.remainder as i64,
+        at.day_half as i64,
+    ]
+}

@@ -1,0 +1,76 @@
+//! The survey: counts and a digest for each era and for the round.
+
+use std::io::{self, Write};
+
+use crate::digest::Digest;
+use crate::numbers::{ERAS, ERA_YEARS};
+use crate::walker::{Walker, Year};
+
+#[derive(Default)]
+struct Counts {
+    months: u64,
+    long: u64,
+    /// Years by leap place; those without a leap month stand at 0.
+    leaps: [u64; 13],
+    new_moons: u64,
+    full_moons: u64,
+}
+
+impl Counts {
+    fn count_year(&mut self, year: &Year) {
+        self.leaps[year.leap_place as usize] += 1;
+        for month in &year.months {
+            self.months += 1;
+            self.long += u64::from(month.row.length == 30);
+            self.new_moons += u64::from(month.new_moon_node.eclipse.marked);
+            self.full_moons += u64::from(month.full_moon_node.eclipse.marked);
+        }
+    }
+
+    fn add(&mut self, other: &Self) {
+        self.months += other.months;
+        self.long += other.long;
+        for (sum, leaps) in self.leaps.iter_mut().zip(other.leaps) {
+            *sum += leaps;
+        }
+        self.new_moons += other.new_moons;
+        self.full_moons += other.full_moons;
+    }
+
+    fn line(&self, title: &str, digest: &Digest) -> String {
+        let leaps = self.leaps[1..].iter().map(u64::to_string);
+        format!(
+            "{title} months {} long {} leaps {} new {} full {} digest {}\n",
+            self.months,
+            self.long,
+            leaps.collect::<Vec<_>>().join(" "),
+            self.new_moons,
+            self.full_moons,
+            digest.value()
+        )
+    }
+}
+
+pub fn write(out: &mut impl Write) -> io::Result<()> {
+    let mut walker = Walker::from_origin();
+    let mut round = Counts::default();
+    let mut round_digest = Digest::default();
+    for era in 1..=ERAS {
+        let (counts, digest) = survey_era(&mut walker);
+        out.write_all(counts.line(&format!("era {era}"), &digest).as_bytes())?;
+        round.add(&counts);
+        round_digest.feed_digest(&digest);
+    }
+    assert!(walker.next().is_none(), "the eras end before the round");
+    out.write_all(round.line("round", &round_digest).as_bytes())
+}
+
+fn survey_era(walker: &mut Walker) -> (Counts, Digest) {
+    let mut counts = Counts::default();
+    let mut digest = Digest::default();
+    for year in walker.take(ERA_YEARS as usize) {
+        counts.count_year(&year);
+        digest.feed_year(&year);
+    }
+    (counts, digest)
+}

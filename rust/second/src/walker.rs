@@ -1,0 +1,290 @@
+//! The walk through the round, a year at a time.
+
+use crate::anomaly::{AnomalyWalk, Correction};
+use crate::instants::{Cut, NewMoon, Phase, SunPoint};
+use crate::nodes::{FullMoonNode, NewMoonNode, NodeWalk};
+use crate::numbers::{
+    CHAPTER_LEAPS, CHAPTER_YEARS, ERA_YEARS, LAST_DAY, LONG_FROM, ROUND_MONTHS, ROUND_YEARS,
+};
+
+/// The month row of the rules paper.
+#[derive(Clone, Copy, Debug, PartialEq, Eq)]
+pub struct Row {
+    /// Month of the round, from 0.
+    pub lunation: u64,
+    pub year: u64,
+    pub place: u64,
+    pub number: u64,
+    pub leap: bool,
+    pub day: u64,
+    pub remainder: u64,
+    pub length: u64,
+}
+
+/// Everything that is answered about one month.
+#[derive(Clone, Copy, Debug, PartialEq, Eq)]
+pub struct Month {
+    pub row: Row,
+    pub phases: [Phase; 4],
+    pub new_moon_node: NewMoonNode,
+    pub full_moon_node: FullMoonNode,
+    pub new_moon_correction: Correction,
+    pub full_moon_correction: Correction,
+}
+
+/// One year with its months.
+#[derive(Clone, Debug, PartialEq, Eq)]
+pub struct Year {
+    pub number: u64,
+    pub months_before: u64,
+    pub leap_remainder: u64,
+    /// Place of the leap month, 0 where there is none.
+    pub leap_place: u64,
+    pub solstice: SunPoint,
+    pub months: Vec<Month>,
+}
+
+impl Year {
+    /// The points of a cut of this year, walked from the solstice.
+    pub fn points(&self, cut: Cut) -> impl Iterator<Item = SunPoint> {
+        std::iter::successors(Some(self.solstice), move |point| Some(point.next(cut)))
+            .take(cut.points as usize)
+    }
+}
+
+/// What moves from month to month.
+#[derive(Clone, Copy, Debug)]
+struct MoonWalk {
+    lunation: u64,
+    new_moon: NewMoon,
+    phase: Phase,
+    node: NodeWalk,
+    anomaly: AnomalyWalk,
+}
+
+impl MoonWalk {
+    const ORIGIN: Self = Self {
+        lunation: 0,
+        new_moon: NewMoon::ORIGIN,
+        phase: Phase::ORIGIN,
+        node: NodeWalk::ORIGIN,
+        anomaly: AnomalyWalk::ORIGIN,
+    };
+
+    fn phases(&self) -> [Phase; 4] {
+        let second = self.phase.next();
+        let third = second.next();
+        [self.phase, second, third, third.next()]
+    }
+
+    fn next(self) -> Self {
+        let new_moon = self.new_moon.next();
+        let phase = self.phases()[3].next();
+        assert!(phase.is_new_moon(new_moon), "the two walks part");
+        Self {
+            lunation: self.lunation + 1,
+            new_moon,
+            phase,
+            node: self.node.next(),
+            anomaly: self.anomaly.next(),
+        }
+    }
+
+    /// The length is counted to the next new moon; the paper's rule must agree.
+    fn length(&self) -> u64 {
+        let length = self.new_moon.next().day - self.new_moon.day;
+        let long = self.new_moon.remainder >= LONG_FROM;
+        assert_eq!(length, if long { 30 } else { 29 });
+        length
+    }
+
+    fn month(&self, name: Name) -> Month {
+        let phases = self.phases();
+        Month {
+            row: Row {
+                lunation: self.lunation,
+                year: name.year,
+                place: name.place,
+                number: name.number,
+                leap: name.leap,
+                day: self.new_moon.day,
+                remainder: self.new_moon.remainder,
+                length: self.length(),
+            },
+            phases,
+            new_moon_node: self.node.new_moon(),
+            full_moon_node: self.node.full_moon(),
+            new_moon_correction: self.anomaly.new_moon(phases[0]),
+            full_moon_correction: self.anomaly.full_moon(phases[2]),
+        }
+    }
+}
+
+/// What a month is called in its year.
+#[derive(Clone, Copy)]
+struct Name {
+    year: u64,
+    place: u64,
+    number: u64,
+    leap: bool,
+}
+
+impl Name {
+    /// The solstice lies in the first month, so that it is never leap.
+    fn first(year: u64) -> Self {
+        Self {
+            year,
+            place: 0,
+            number: 11,
+            leap: false,
+        }
+    }
+
+    /// A month without a middle term is leap and repeats the number before it.
+    fn next(self, holds_term: bool) -> Self {
+        let number = match (holds_term, self.number) {
+            (false, same) => same,
+            (true, 12) => 1,
+            (true, before) => before + 1,
+        };
+        Self {
+            year: self.year,
+            place: self.place + 1,
+            number,
+            leap: !holds_term,
+        }
+    }
+}
+
+/// The walk, standing at the start of a year; yields the years in order.
+#[derive(Clone, Debug)]
+pub struct Walker {
+    year: u64,
+    months_before: u64,
+    leap_remainder: u64,
+    /// The next middle term; at the start of a year its solstice.
+    term: SunPoint,
+    moon: MoonWalk,
+}
+
+impl Walker {
+    pub fn from_origin() -> Self {
+        Self {
+            year: 1,
+            months_before: 0,
+            leap_remainder: 0,
+            term: SunPoint::ORIGIN,
+            moon: MoonWalk::ORIGIN,
+        }
+    }
+
+    /// The year that comes next.
+    pub fn year(&self) -> u64 {
+        self.year
+    }
+
+    /// The month of the round in which that year begins.
+    pub fn lunation(&self) -> u64 {
+        self.moon.lunation
+    }
+
+    /// The day on which that year begins.
+    pub fn day(&self) -> u64 {
+        self.moon.new_moon.day
+    }
+
+    fn enter_era(&mut self) {
+        let past = self.year - 1;
+        if past.is_multiple_of(ERA_YEARS) {
+            self.moon.node = self.moon.node.at_era_head((past / ERA_YEARS) as usize);
+        }
+    }
+
+    /// Walks on to the month that holds the next year's solstice.
+    fn walk_months(&mut self) -> Vec<Month> {
+        let mut months = Vec::with_capacity(13);
+        let mut name = Name::first(self.year);
+        let mut terms_met = 0;
+        loop {
+            let holds = self.month_holds_term();
+            if holds && terms_met == Cut::MIDDLE_TERMS.points {
+                return months;
+            }
+            if months.is_empty() {
+                assert!(holds, "the year's first month misses its solstice");
+            } else {
+                name = name.next(holds);
+            }
+            months.push(self.moon.month(name));
+            self.moon = self.moon.next();
+            if holds {
+                terms_met += 1;
+                self.term = self.term.next(Cut::MIDDLE_TERMS);
+            }
+        }
+    }
+
+    /// Looks whether the next middle term lies in the month at hand. It must
+    /// not lie before it: then a month would have held two.
+    fn month_holds_term(&self) -> bool {
+        assert!(!self.term.is_before(self.moon.new_moon));
+        self.term.is_before(self.moon.new_moon.next())
+    }
+
+    /// The treatise's yearly addition to the months and the leap remainder.
+    fn step_year(&mut self) {
+        self.year += 1;
+        self.months_before += 12;
+        self.leap_remainder += CHAPTER_LEAPS;
+        if self.leap_remainder >= CHAPTER_YEARS {
+            self.leap_remainder -= CHAPTER_YEARS;
+            self.months_before += 1;
+        }
+        assert_eq!(self.months_before, self.moon.lunation);
+        assert_eq!(self.term.rest, 0, "a solstice is whole over D");
+    }
+
+    /// After the last year everything but node and anomaly is as at the origin.
+    fn assert_round_closes(&self) {
+        let moon = &self.moon;
+        assert_eq!(moon.lunation, ROUND_MONTHS);
+        assert_eq!(
+            (moon.new_moon.day, moon.new_moon.remainder),
+            (LAST_DAY + 1, 0)
+        );
+        assert_eq!((self.term.day, self.term.remainder), (LAST_DAY + 1, 0));
+        assert_eq!(self.leap_remainder, 0);
+    }
+}
+
+impl Iterator for Walker {
+    type Item = Year;
+
+    fn next(&mut self) -> Option<Year> {
+        if self.year > ROUND_YEARS {
+            self.assert_round_closes();
+            return None;
+        }
+        self.enter_era();
+        let start = self.clone();
+        let months = self.walk_months();
+        self.step_year();
+        Some(Year {
+            number: start.year,
+            months_before: start.months_before,
+            leap_remainder: start.leap_remainder,
+            leap_place: leap_place(&months),
+            solstice: start.term,
+            months,
+        })
+    }
+}
+
+/// The place of the month found without a middle term.
+fn leap_place(months: &[Month]) -> u64 {
+    let mut leaps = months.iter().filter(|month| month.row.leap);
+    let place = leaps.next().map_or(0, |month| month.row.place);
+    assert!(leaps.next().is_none(), "two months without a middle term");
+    assert_eq!(months.len(), if place == 0 { 12 } else { 13 });
+    place
+}

@@ -1,0 +1,163 @@
+//! The rules paper's "Cases at the edges" and its printed year 1.
+
+use second::ask::{self, Refusal};
+use second::nodes::Side;
+use second::{Checkpoints, Month, Row, Year};
+
+fn year(number: u64) -> Year {
+    ask::year(number).unwrap()
+}
+
+fn month(number: u64, place: u64) -> Month {
+    ask::month(number, place).unwrap()
+}
+
+/// Months before, leap remainder, month count, leap place.
+fn head(number: u64) -> (u64, u64, usize, u64) {
+    let year = year(number);
+    (
+        year.months_before,
+        year.leap_remainder,
+        year.months.len(),
+        year.leap_place,
+    )
+}
+
+fn solstice(number: u64) -> (u64, u64) {
+    let solstice = year(number).solstice;
+    (solstice.day, solstice.remainder)
+}
+
+fn begins(row: &Row) -> (u64, u64, u64) {
+    (row.day, row.remainder, row.length)
+}
+
+#[test]
+fn first_years() {
+    assert_eq!(head(1), (0, 0, 12, 0));
+    assert_eq!(solstice(1), (0, 0));
+    assert_eq!(begins(&month(1, 0).row), (0, 0, 29));
+    assert_eq!(head(2), (12, 207, 12, 0));
+    assert_eq!(head(3), (24, 414, 13, 9));
+    assert_eq!(head(4), (37, 59, 12, 0));
+}
+
+#[test]
+fn last_year() {
+    assert_eq!(head(1_011_600), (12_511_787, 355, 13, 12));
+    assert_eq!(solstice(1_011_600), (369_480_654, 12_743));
+    let last = month(1_011_600, 12).row;
+    assert_eq!(begins(&last), (369_480_990, 97_883, 30));
+    assert_eq!(last.lunation, 12_511_799);
+}
+
+#[test]
+fn month_nought_at_the_node() {
+    let month = month(1, 0);
+    let new_moon = month.new_moon_node;
+    assert_eq!(
+        (new_moon.distance.degrees, new_moon.distance.remainder),
+        (0, 0)
+    );
+    assert_eq!(new_moon.side, Side::AtNode);
+    assert!(new_moon.eclipse.marked);
+    assert_eq!(new_moon.eclipse.size, 15);
+    let full_moon = month.full_moon_node;
+    let distance = full_moon.distance;
+    assert_eq!(
+        (distance.degrees, distance.remainder, distance.half),
+        (14, 159_588, 1)
+    );
+    assert!(full_moon.eclipse.marked);
+    assert_eq!(full_moon.eclipse.size, 1);
+}
+
+#[test]
+fn xinghe_two() {
+    let year = year(293_997);
+    assert_eq!((year.leap_remainder, year.leap_place), (440, 8));
+    assert_eq!(solstice(293_997), (107_380_330, 2_132));
+    let first = year.months[0].row;
+    assert_eq!(first.lunation, 3_636_238);
+    assert_eq!(
+        (first.day, first.day % 60, first.remainder),
+        (107_380_307, 47, 1_336)
+    );
+}
+
+#[test]
+fn xinghe_two_node_and_correction() {
+    let month = month(293_997, 0);
+    let node = month.new_moon_node;
+    assert_eq!(
+        (node.distance.degrees, node.distance.remainder),
+        (136, 125_572)
+    );
+    assert_eq!(node.side, Side::Inside);
+    assert!(!node.eclipse.marked);
+    let moon = month.new_moon_correction;
+    assert_eq!(
+        (moon.anomaly_day, moon.rest, moon.correction),
+        (14, 188_982, 2_124)
+    );
+    assert_eq!((moon.day, moon.remainder), (month.row.day - 1, 207_742));
+}
+
+#[test]
+fn refusals() {
+    assert_eq!(ask::year(0).unwrap_err(), Refusal::Year);
+    assert_eq!(ask::year(1_011_601).unwrap_err(), Refusal::Year);
+    assert_eq!(month(1, 0).row.length, 29);
+    assert_eq!(ask::day_number(1, 0, 30), Err(Refusal::DayOfMonth));
+    let first = month(1, 0).row;
+    let forged = Row {
+        number: 12,
+        ..first
+    };
+    assert_eq!(ask::carry(&forged, 0), Err(Refusal::ForgedRow));
+    let last = month(1_011_600, 12).row;
+    assert_eq!(ask::carry(&last, 1), Err(Refusal::CarryOutside));
+}
+
+#[test]
+fn printed_year_one() {
+    let printed = [
+        (11, 0, 0, 29),
+        (12, 29, 110_647, 30),
+        (1, 59, 12_764, 29),
+        (2, 28, 123_411, 30),
+        (3, 58, 25_528, 29),
+        (4, 27, 136_175, 30),
+        (5, 57, 38_292, 29),
+        (6, 26, 148_939, 30),
+        (7, 56, 51_056, 29),
+        (8, 25, 161_703, 30),
+        (9, 55, 63_820, 29),
+        (10, 24, 174_467, 30),
+    ];
+    let months = year(1).months;
+    assert!(months.iter().all(|month| !month.row.leap));
+    let rows = months.iter().map(|month| &month.row);
+    let walked: Vec<_> = rows
+        .map(|row| (row.number, row.day % 60, row.remainder, row.length))
+        .collect();
+    assert_eq!(walked, printed);
+}
+
+/// A year found from a checkpoint is the year met on the way; the last years
+/// before and the first ones after an era's head cross both seams.
+#[test]
+fn checkpoints_give_what_the_walk_gives() {
+    let round = Checkpoints::shared();
+    let walk = second::Walker::from_origin().skip(168_500);
+    for year in walk.take(250) {
+        assert_eq!(round.year(year.number).as_ref(), Some(&year));
+        for month in &year.months {
+            let lunation = month.row.lunation;
+            assert_eq!(round.month(lunation).as_ref(), Some(month));
+            let last_day = month.row.day + month.row.length - 1;
+            assert_eq!(round.month_of_day(month.row.day).as_ref(), Some(month));
+            assert_eq!(round.month_of_day(last_day).as_ref(), Some(month));
+        }
+    }
+}
