@@ -1,0 +1,59 @@
+-- The lent list with the year's first k rows at its front: how long it is, and what one row more does to it.
+-- Assumes nothing.
+use mathlib.Core.Bool.{Bool, true, false}
+use mathlib.Core.List.{List, [], _∷_, _++_, append-assoc}
+use mathlib.Core.Path.{_≡_, refl, sym, _∙_, ap}
+use Prim.Native.Nat.{ℕ, zero, suc, _+_, _≤_, _<_}
+use native.Mathlib.Nat.{add-zero, add-suc, suc-add, zero-add}
+use native.Mathlib.Numerals.{add-one}
+use native.Mathlib.Omega.{arith}
+use lib.Dec.{leb}
+use lib.ListN.{length, drop, set, length-append, length-drop}
+use lib.Seq.{drop-cons, set-at}
+use borrow.Author.Tests.{leb-true}
+use Rattle.reckoning.specs.Search.{pick}
+use Rattle.refusal.specs.declared.Refusal.{Refusal}
+use Rattle.calendar.specs.Heads.{yearHead}
+use Rattle.calendar.specs.declared.HeadAnswer.{HeadAnswer}
+use Rattle.calendar.specs.declared.MonthRow.{MonthRow}
+use Rattle.year_list.specs.Filled.{answerFor, rowAt, rowsFrom, written, toWrite}
+use Rattle.year_list.specs.declared.FillAnswer.{FillAnswer}
+
+-- no more rows are written than the list has
+written-of : (k have : ℕ) (b : Bool) → leb k have ≡ b → written (pick b (FillAnswer.Filled k) (FillAnswer.Refused Refusal.List)) ≤ have
+written-of k have true e = leb-true k have e
+written-of k have false e = omega arith
+
+pub within : (n have : ℕ) → toWrite n have ≤ have
+unfolding answerFor
+within n have = go (yearHead n)
+  where
+    go : (a : HeadAnswer) → written (answerFor a have) ≤ have
+    go (HeadAnswer.Answered head) = written-of (head .months) have (leb (head .months) have) refl
+    go (HeadAnswer.Refused e) = omega arith
+
+abbrev pub front : ℕ → ℕ → List MonthRow → List MonthRow
+front n k rows = rowsFrom n 0 k ++ drop k rows
+
+pub rows-length : (n p k : ℕ) → length (rowsFrom n p k) ≡ k
+unfolding rowsFrom
+rows-length n p zero = refl
+rows-length n p (suc k) = ap suc (rows-length n (suc p) k)
+
+pub as-long : (n k : ℕ) (rows : List MonthRow) → k ≤ length rows → length (front n k rows) ≡ length rows
+as-long n k rows h = omega (arith, length-append (rowsFrom n 0 k) (drop k rows), rows-length n 0 k, length-drop k rows)
+
+-- one row more at the end
+rows-more : (n p k : ℕ) → rowsFrom n p (suc k) ≡ rowsFrom n p k ++ (rowAt n (p + k) ∷ [])
+unfolding rowsFrom
+rows-more n p zero = rw (add-zero p)
+rows-more n p (suc k) =
+    let e : suc p + k ≡ p + suc k = omega arith in
+    ap (λ (l : List MonthRow). rowAt n p ∷ l) (rows-more n (suc p) k ∙ rw e)
+
+pub one-more : (n k : ℕ) (rows : List MonthRow) (r : MonthRow) → k < length rows → r ≡ rowAt n k → set (front n k rows) k r ≡ front n (k + 1) rows
+one-more n k rows r h e =
+    ap (λ (l : List MonthRow). set (rowsFrom n 0 k ++ l) k r) (drop-cons rows k r h)
+    ∙ set-at (rowsFrom n 0 k) _ (drop (suc k) rows) r k (rows-length n 0 k)
+    ∙ sym (append-assoc (rowsFrom n 0 k) (r ∷ []) (drop (suc k) rows))
+    ∙ rw (e, add-one k, rows-more n 0 k, zero-add k)

@@ -1,0 +1,4 @@
+pub mod Fronts
+pub mod Years
+pub mod Plain
+pub mod Local
