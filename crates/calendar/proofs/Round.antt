@@ -19,12 +19,16 @@ use Rattle.reckoning.proofs.Rows.{year-under, month-back, place-in, year-of, pl
 use Rattle.reckoning.proofs.Days.{month-under}
 use Rattle.reckoning.proofs.Moons.{moons-climb, long-month, short-month}
 use Rattle.reckoning.proofs.Chapters.{year-of-month}
-use Rattle.lunisolar.proofs.Laws.{before-is, lunation-found}
-use Rattle.lunisolar.specs.Calendars.{lunationAt}
+use Rattle.lunisolar.proofs.Laws.{before-is, count-bound, lunation-found}
+use Rattle.lunisolar.specs.Calendars.{yearAt, lunationAt}
+use Rattle.lunisolar.specs.declared.YearAnswer.{YearAnswer}
 use Rattle.lunisolar.specs.declared.LunationAnswer.{LunationAnswer}
 use Rattle.units.specs.Xinghe.{xinghe, means, rule, chapterMonths, chapterYears, roundYears, roundMonths, roundDays, longFrom}
 use Rattle.units.proofs.Sound.{sound, laws}
 use Rattle.moon.specs.NewMoons.{newMoonOf, lengthOf}
+use Rattle.calendar.specs.Heads.{headOf, headAt, yearHead}
+use Rattle.calendar.specs.declared.YearHead.{YearHead}
+use Rattle.calendar.specs.declared.HeadAnswer.{HeadAnswer}
 use Rattle.calendar.specs.Rows.{Stands, rowOf, rowAt, monthRow}
 use Rattle.calendar.specs.declared.MonthRow.{MonthRow}
 use Rattle.calendar.specs.declared.RowAnswer.{RowAnswer}
@@ -137,3 +141,12 @@ row-bounds m h = (omega arith, pick-bound (leb longFrom (newMoonRest means m)))
     pick-bound : (b : Bool) → pick b 30 29 < 4294967296
     pick-bound true = omega arith
     pick-bound false = omega arith
+
+-- a head that is answered has at most thirteen months
+pub head-months : (n : ℕ) (head : YearHead) → HeadAnswer.Answered head ≡ yearHead n → head .months ≤ 13
+unfolding headAt headOf
+head-months n head e = go (yearAt xinghe n) e
+  where
+    go : (a : YearAnswer) → HeadAnswer.Answered head ≡ headAt a → head .months ≤ 13
+    go (YearAnswer.Past y) e = let q : head ≡ headOf y = cc in rw q (count-bound xinghe sound y)
+    go (YearAnswer.Refused x) e = let bad : _≡_ {A = ℕ} 0 1 = cc in absurd (omega arith)

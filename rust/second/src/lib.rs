@@ -15,6 +15,7 @@ pub mod fields;
 pub mod instants;
 pub mod nodes;
 pub mod numbers;
+pub mod printer;
 pub mod survey;
 pub mod walker;
 

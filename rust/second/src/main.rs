@@ -1,9 +1,9 @@
-//! `second cases` or `second survey`, written to standard output.
+//! `second cases`, `second survey` or `second runs`, written to standard output.
 
 use std::io::{self, BufWriter, Write};
 use std::process::ExitCode;
 
-use second::{cases, survey};
+use second::{cases, printer, survey};
 
 fn main() -> ExitCode {
     let arguments: Vec<String> = std::env::args().skip(1).collect();
@@ -11,8 +11,9 @@ fn main() -> ExitCode {
     let written = match arguments.as_slice() {
         [what] if what == "cases" => cases::write(&mut out),
         [what] if what == "survey" => survey::write(&mut out),
+        [what] if what == "runs" => printer::write_runs(&mut out),
         _ => {
-            eprintln!("usage: second cases | second survey");
+            eprintln!("usage: second cases | second survey | second runs");
             return ExitCode::from(2);
         }
     };

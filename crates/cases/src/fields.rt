@@ -1,0 +1,141 @@
+// Answers on a line: their values in the order in which every line of their question has them.
+use crate::lines::Line;
+use anomaly::Anomaly;
+use anomaly::Corrected;
+use calendar::MonthRow;
+use calendar::YearHead;
+use moon::phases::Phase;
+use moon::phases::Phases;
+use node::Distance;
+use node::Eclipse;
+use node::Node;
+use node::Side;
+use sun::Point;
+
+pub fn with_head(line: Line, head: YearHead) -> Line {
+    let solstice = head.solstice;
+    let remainder = solstice.remainder;
+    line.number(head.before)
+        .number(head.remainder)
+        .number(head.months)
+        .number(head.leap)
+        .number(solstice.day)
+        .number(remainder.parts)
+}
+
+pub fn with_row(line: Line, row: MonthRow) -> Line {
+    let remainder = row.remainder;
+    line.number(row.lunation)
+        .number(row.number)
+        .leap_mark(row.leap)
+        .number(row.day)
+        .number(units::sexagenary(row.day))
+        .number(remainder.parts)
+        .number(row.length)
+}
+
+// A carry may end in another year: its row names its year and place, where a row that was asked for does not.
+pub fn with_carried_row(line: Line, row: MonthRow) -> Line {
+    let remainder = row.remainder;
+    line.number(row.lunation)
+        .number(row.year)
+        .number(row.place)
+        .number(row.number)
+        .leap_mark(row.leap)
+        .number(row.day)
+        .number(remainder.parts)
+        .number(row.length)
+}
+
+fn with_phase(line: Line, phase: Phase) -> Line {
+    let remainder = phase.remainder;
+    line.number(phase.day)
+        .number(remainder.parts)
+        .number(phase.quarters)
+}
+
+pub fn with_phases(line: Line, phases: Phases) -> Line {
+    let new = phases.new;
+    let first = phases.first;
+    let full = phases.full;
+    let last = phases.last;
+    with_phase(
+        with_phase(with_phase(with_phase(line, new), first), full),
+        last,
+    )
+}
+
+fn with_side(line: Line, side: Side) -> Line {
+    match side {
+        Side::AtNode => line.number(0),
+        Side::Outside => line.number(1),
+        Side::Inside => line.number(2),
+    }
+}
+
+// A new moon's distance is whole parts: no half is written beside it.
+fn with_whole_distance(line: Line, distance: Distance) -> Line {
+    let remainder = distance.remainder;
+    line.number(distance.degrees).number(remainder.parts)
+}
+
+fn with_distance(line: Line, distance: Distance) -> Line {
+    with_whole_distance(line, distance).number(distance.half)
+}
+
+fn with_mark(line: Line, eclipse: Eclipse) -> Line {
+    if eclipse.marked {
+        line.number(1)
+    } else {
+        line.number(0)
+    }
+}
+
+pub fn with_new_moon_node(line: Line, node: Node, side: Side) -> Line {
+    let distance = node.distance;
+    let eclipse = node.eclipse;
+    let eclipse_distance = eclipse.distance;
+    let at_node = with_side(with_whole_distance(line, distance), side);
+    with_whole_distance(with_mark(at_node, eclipse), eclipse_distance).number(eclipse.size)
+}
+
+pub fn with_full_moon_node(line: Line, node: Node) -> Line {
+    let distance = node.distance;
+    let eclipse = node.eclipse;
+    let eclipse_distance = eclipse.distance;
+    let at_node = with_distance(line, distance);
+    with_distance(with_mark(at_node, eclipse), eclipse_distance).number(eclipse.size)
+}
+
+fn with_anomaly(line: Line, anomaly: Anomaly) -> Line {
+    let rest = anomaly.rest;
+    line.number(anomaly.day).number(rest.parts)
+}
+
+// A new moon's instant is whole parts: no half is written beside its rest and its remainder.
+pub fn with_new_moon_correction(line: Line, corrected: Corrected) -> Line {
+    let anomaly = corrected.anomaly;
+    let remainder = corrected.remainder;
+    with_anomaly(line, anomaly)
+        .signed(corrected.correction)
+        .number(corrected.day)
+        .number(remainder.parts)
+}
+
+pub fn with_full_moon_correction(line: Line, corrected: Corrected) -> Line {
+    let anomaly = corrected.anomaly;
+    let remainder = corrected.remainder;
+    with_anomaly(line, anomaly)
+        .number(anomaly.half)
+        .signed(corrected.correction)
+        .number(corrected.day)
+        .number(remainder.parts)
+        .number(corrected.half)
+}
+
+pub fn with_point(line: Line, point: Point) -> Line {
+    let remainder = point.remainder;
+    line.number(point.day)
+        .number(remainder.parts)
+        .number(point.rest)
+}

@@ -1,0 +1,12 @@
+// The cases: full answers for chosen years, then refusals and edges, in the lines that the independent second program writes.
+mod edges;
+mod fields;
+mod lines;
+mod questions;
+mod years;
+
+fn main() {
+    years::ask_spread();
+    years::ask_seams();
+    edges::ask_edges();
+}

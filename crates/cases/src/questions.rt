@@ -1,0 +1,126 @@
+// Questions: each writes one line, what is asked and then its values or the number of its refusal.
+use crate::fields;
+use crate::lines::Line;
+use calendar::DateAnswer;
+use calendar::DayAnswer;
+use calendar::HeadAnswer;
+use calendar::RowAnswer;
+use ephemeris::CorrectionsAnswer;
+use ephemeris::NodesAnswer;
+use ephemeris::PhasesAnswer;
+use ephemeris::PointAnswer;
+use units::remainder::DayRemainder;
+ghost use Prim.Native.Nat.{_<_};
+ghost use Rattle.units.specs.Xinghe.{roundMonths};
+
+fn asked_of_month(question: &[u8], year: u64, place: u64) -> Line {
+    Line::new().text(question).number(year).number(place)
+}
+
+pub fn ask_head(year: u64) {
+    let line = Line::new().text(b"head").number(year);
+    match calendar::heads::year_head(year) {
+        HeadAnswer::Answered(head) => fields::with_head(line, head).write(),
+        HeadAnswer::Refused(refusal) => line.refuse(refusal),
+    }
+}
+
+pub fn ask_row(year: u64, place: u64) {
+    let line = asked_of_month(b"row", year, place);
+    match calendar::rows::month_row(year, place) {
+        RowAnswer::Answered(row) => fields::with_row(line, row).write(),
+        RowAnswer::Refused(refusal) => line.refuse(refusal),
+    }
+}
+
+pub fn ask_phases(year: u64, place: u64) {
+    let line = asked_of_month(b"phases", year, place);
+    match ephemeris::phases(year, place) {
+        PhasesAnswer::Answered(phases) => fields::with_phases(line, phases).write(),
+        PhasesAnswer::Refused(refusal) => line.refuse(refusal),
+    }
+}
+
+pub fn ask_nodes(year: u64, place: u64) {
+    let line = asked_of_month(b"nodes", year, place);
+    match ephemeris::nodes(year, place) {
+        NodesAnswer::Answered(nodes) => {
+            let new = nodes.new;
+            let side = nodes.side;
+            let full = nodes.full;
+            fields::with_full_moon_node(fields::with_new_moon_node(line, new, side), full).write()
+        }
+        NodesAnswer::Refused(refusal) => line.refuse(refusal),
+    }
+}
+
+pub fn ask_corrections(year: u64, place: u64) {
+    let line = asked_of_month(b"corrections", year, place);
+    match ephemeris::corrections(year, place) {
+        CorrectionsAnswer::Answered(corrections) => {
+            let new = corrections.new;
+            let full = corrections.full;
+            let with_new = fields::with_new_moon_correction(line, new);
+            fields::with_full_moon_correction(with_new, full).write()
+        }
+        CorrectionsAnswer::Refused(refusal) => line.refuse(refusal),
+    }
+}
+
+pub fn ask_cut(year: u64, cut: u64, index: u64) {
+    let line = Line::new()
+        .text(b"cut")
+        .number(year)
+        .number(cut)
+        .number(index);
+    match ephemeris::cut_point(year, cut, index) {
+        PointAnswer::Answered(point) => fields::with_point(line, point).write(),
+        PointAnswer::Refused(refusal) => line.refuse(refusal),
+    }
+}
+
+pub fn ask_day(year: u64, place: u64, day: u64) {
+    let line = asked_of_month(b"day", year, place).number(day);
+    match calendar::dates::day_of_date(year, place, day) {
+        DayAnswer::Answered(found) => line.number(found.number).number(found.sexagenary).write(),
+        DayAnswer::Refused(refusal) => line.refuse(refusal),
+    }
+}
+
+pub fn ask_date(number: u64) {
+    let line = Line::new().text(b"date").number(number);
+    match calendar::dates::date_of_day(number) {
+        DateAnswer::Answered(date) => line.number(date.year)
+            .number(date.place)
+            .number(date.day)
+            .write(),
+        DateAnswer::Refused(refusal) => line.refuse(refusal),
+    }
+}
+
+pub fn ask_carry(lunation: u64, count: i64)
+    requires { ⌜ lunation < roundMonths ⌝ }
+{
+    let line = Line::new().text(b"carry").number(lunation).signed(count);
+    match calendar::rows::row_of(lunation).carry(count) {
+        RowAnswer::Answered(row) => fields::with_carried_row(line.text(b" ->"), row).write(),
+        RowAnswer::Refused(refusal) => line.refuse(refusal),
+    }
+}
+
+// A carry of a row with one field changed, which no carry may take.
+pub fn ask_forged(lunation: u64, count: i64)
+    requires { ⌜ lunation < roundMonths ⌝ }
+{
+    let line = Line::new().text(b"forged").number(lunation).signed(count);
+    let mut row = calendar::rows::row_of(lunation);
+    let remainder = row.remainder;
+    let changed = DayRemainder {
+        parts: std::num::wrapping_add_u64(remainder.parts, 1),
+    };
+    row.remainder = changed;
+    match row.carry(count) {
+        RowAnswer::Answered(_) => line.text(b" taken").write(),
+        RowAnswer::Refused(refusal) => line.refuse(refusal),
+    }
+}

@@ -1,0 +1,29 @@
+// The survey: counts and a digest over every number that the calendar answers, for each era and for the round, in the lines that the
+// independent second program writes.
+mod counts;
+mod digest;
+mod fields;
+mod lines;
+mod years;
+
+use lines::Line;
+use years::Survey;
+
+// The eras of the round (元).
+const ERAS: u64 = 6;
+
+fn survey_round() -> Survey {
+    let mut round = Survey::new();
+    let mut i = 0;
+    while i < ERAS {
+        let era = years::survey_era(i * years::ERA_YEARS);
+        era.write(Line::new().text(b"era").number(i + 1));
+        round = round.add_era(era);
+        i += 1;
+    }
+    round
+}
+
+fn main() {
+    survey_round().write(Line::new().text(b"round"));
+}

@@ -1,0 +1,101 @@
+// Every question of the calendar, asked of every month and year of an era.
+use crate::counts::Counts;
+use crate::digest::Digest;
+use crate::fields;
+use crate::lines::Line;
+ghost use Prim.Native.Nat.{_<_};
+
+// The years of an era (紀).
+pub const ERA_YEARS: u64 = 168600;
+
+// What is known of the years asked so far.
+pub struct Survey {
+    pub counts: Counts,
+    pub digest: Digest,
+}
+
+impl Survey {
+    pub fn new() -> Self {
+        let counts = Counts::new();
+        let digest = Digest::new();
+        Self { counts, digest }
+    }
+
+    fn month(self, year: u64, place: u64) -> Self {
+        let row = calendar::rows::month_row(year, place).values();
+        let phases = ephemeris::phases(year, place).values();
+        let nodes = ephemeris::nodes(year, place).values();
+        let corrections = ephemeris::corrections(year, place).values();
+        let before = self.digest;
+        let with_phases = fields::fed_phases(fields::fed_row(before, row), phases);
+        let with_nodes = fields::fed_nodes(with_phases, nodes);
+        let digest = fields::fed_corrections(with_nodes, corrections);
+        let counted = self.counts;
+        let counts = counted.count_month(row, nodes);
+        Self { counts, digest }
+    }
+
+    fn months(self, year: u64, months: u64) -> Self {
+        let mut survey = self;
+        let mut place = 0;
+        while place < months {
+            survey = survey.month(year, place);
+            place += 1;
+        }
+        survey
+    }
+
+    fn year(self, year: u64) -> Self {
+        let head = calendar::heads::year_head(year).values();
+        let before = self.digest;
+        let digest = feed_cut(feed_cut(feed_cut(before, year, 24), year, 60), year, 72);
+        let counted = self.counts;
+        let counts = counted.count_year(head.leap);
+        Self { counts, digest }.months(year, head.months)
+    }
+
+    // An era's counts added, and its digest fed, to those of the round.
+    pub fn add_era(self, era: Survey) -> Self {
+        let round_counts = self.counts;
+        let era_counts = era.counts;
+        let counts = round_counts.add(era_counts);
+        let round_digest = self.digest;
+        let era_digest = era.digest;
+        let digest = round_digest.feed_digest(era_digest);
+        Self { counts, digest }
+    }
+
+    pub fn write(self, title: Line) {
+        let counts = self.counts;
+        let digest = self.digest;
+        counts
+            .on_line(title)
+            .text(b" digest")
+            .number(digest.value())
+            .write();
+    }
+}
+
+// Every point of a cut of the year.
+fn feed_cut(digest: Digest, year: u64, cut: u64) -> Digest {
+    let mut fed = digest;
+    let mut index = 0;
+    while index < cut {
+        fed = fields::fed_point(fed, ephemeris::cut_point(year, cut, index).values());
+        index += 1;
+    }
+    fed
+}
+
+// The era that begins after so many years.
+pub fn survey_era(past: u64) -> Survey
+    requires { ⌜ past < 4294967296 ⌝ }
+{
+    let mut survey = Survey::new();
+    let mut i = 0;
+    while i < ERA_YEARS {
+        survey = survey.year(past + i + 1);
+        i += 1;
+    }
+    survey
+}

@@ -1,0 +1,24 @@
+use mathlib.Core.Path.{refl}
+use borrow.Author.Needs.{needs}
+use Rattle.xinghe.proofs.xinghe_cut_point.Statement.{statement}
+use Rattle.xinghe.proofs.xinghe_cut_point.Tie as tie
+
+cut-point-requires : tie.Need-cut-point-requires
+cut-point-requires c κs = search needs
+
+values-requires : tie.Need-values-requires
+values-requires c κs = search needs
+
+point-fields-requires : tie.Need-point-fields-requires
+point-fields-requires c κs = search needs
+
+number-requires : tie.Need-number-requires
+number-requires c κs = search needs
+
+returns : tie.Need-returns
+returns c = rw (c .number .ensures, c .before .point-fields .ensures, c .before .before .values .ensures, c .before .before .before .cut-point .ensures) (refl, refl)
+
+pub xinghe-cut-point-spec : {M : Type 1} → statement M
+xinghe-cut-point-spec =
+    tie.close
+    (tie.spec cut-point-requires values-requires point-fields-requires number-requires returns)

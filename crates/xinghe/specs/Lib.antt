@@ -1,0 +1,4 @@
+pub mod Fields
+pub mod Lent
+pub mod Walks
+pub mod Years

@@ -1,0 +1,26 @@
+-- A whole year in a lent list of numbers.
+-- Assumes nothing.
+use mathlib.Core.List.{List, [], _∷_, _++_}
+use Prim.Native.Nat.{ℕ, _*_, _/_}
+use lib.ListN.{length, drop}
+use Rattle.calendar.specs.declared.MonthRow.{MonthRow}
+use Rattle.year_list.specs.Filled.{rowsFrom, fillAnswer, written}
+use Rattle.year_list.specs.declared.FillAnswer.{FillAnswer}
+use Rattle.xinghe.specs.Fields.{rowFields}
+
+-- the numbers of rows, one row after the other
+unfoldable pub rowsFields : List MonthRow → List ℕ
+rowsFields [] = []
+rowsFields (row ∷ rows) = rowFields row ++ rowsFields rows
+
+-- the answer for a list of that many numbers: it holds a row for each whole eight of them
+abbrev pub fillAnswerIn : ℕ → ℕ → FillAnswer
+fillAnswerIn n have = fillAnswer n (have / 8)
+
+-- the list with the year's first k rows at its front
+abbrev pub frontFields : ℕ → ℕ → List ℕ → List ℕ
+frontFields n k xs = rowsFields (rowsFrom n 0 k) ++ drop (8 * k) xs
+
+-- the list afterwards: the year's rows at the front, and the rest as it was; refused, all of it
+abbrev pub filledFields : ℕ → List ℕ → List ℕ
+filledFields n xs = frontFields n (written (fillAnswerIn n (length xs))) xs

@@ -1,0 +1,197 @@
+// The values of each answer as the numbers that are written to the lent array, in the order of include/xinghe.h.
+use anomaly::Corrections;
+use anomaly::amounts::Amount;
+use calendar::Date;
+use calendar::Day;
+use calendar::MonthRow;
+use calendar::YearHead;
+use moon::phases::Phases;
+use node::Nodes;
+use node::Side;
+use sun::Point;
+use walking::Sign;
+ghost use mathlib.Core.Path.{_≡_};
+ghost use Rattle.anomaly.specs.Amounts.{sizedOf};
+ghost use Rattle.xinghe.specs.Fields.{bitOf, headFields, rowFields, dayFields, dateFields, phasesFields, sideNumber, nodesFields, correctionsFields, pointFields};
+
+// Yes is 1 and no is 0.
+pub fn bit(yes: bool) -> u64
+    ensures { λ r. ⌜ r ≡ bitOf yes ⌝ }
+{
+    yes as u64
+}
+
+pub fn head_fields(head: YearHead) -> [u64; 6]
+    ensures { λ r. ⌜ r ≡ headFields head ⌝ }
+{
+    let solstice = head.solstice;
+    let rest = solstice.remainder;
+    [
+        head.before,
+        head.remainder,
+        head.months,
+        head.leap,
+        solstice.day,
+        rest.parts,
+    ]
+}
+
+pub fn row_fields(row: MonthRow) -> [u64; 8]
+    ensures { λ r. ⌜ r ≡ rowFields row ⌝ }
+{
+    let rest = row.remainder;
+    let leap = bit(row.leap);
+    [
+        row.lunation,
+        row.year,
+        row.place,
+        row.number,
+        leap,
+        row.day,
+        rest.parts,
+        row.length,
+    ]
+}
+
+pub fn day_fields(day: Day) -> [u64; 2]
+    ensures { λ r. ⌜ r ≡ dayFields day ⌝ }
+{
+    [day.number, day.sexagenary]
+}
+
+pub fn date_fields(date: Date) -> [u64; 3]
+    ensures { λ r. ⌜ r ≡ dateFields date ⌝ }
+{
+    [date.year, date.place, date.day]
+}
+
+pub fn phases_fields(phases: Phases) -> [u64; 12]
+    ensures { λ r. ⌜ r ≡ phasesFields phases ⌝ }
+{
+    let new = phases.new;
+    let new_rest = new.remainder;
+    let first = phases.first;
+    let first_rest = first.remainder;
+    let full = phases.full;
+    let full_rest = full.remainder;
+    let last = phases.last;
+    let last_rest = last.remainder;
+    [
+        new.day,
+        new_rest.parts,
+        new.quarters,
+        first.day,
+        first_rest.parts,
+        first.quarters,
+        full.day,
+        full_rest.parts,
+        full.quarters,
+        last.day,
+        last_rest.parts,
+        last.quarters,
+    ]
+}
+
+fn side_number(side: Side) -> u64
+    ensures { λ r. ⌜ r ≡ sideNumber side ⌝ }
+{
+    match side {
+        Side::AtNode => 0,
+        Side::Outside => 1,
+        Side::Inside => 2,
+    }
+}
+
+pub fn nodes_fields(nodes: Nodes) -> [u64; 15]
+    ensures { λ r. ⌜ r ≡ nodesFields nodes ⌝ }
+{
+    let new = nodes.new;
+    let new_at = new.distance;
+    let new_rest = new_at.remainder;
+    let new_eclipse = new.eclipse;
+    let new_from = new_eclipse.distance;
+    let new_over = new_from.remainder;
+    let full = nodes.full;
+    let full_at = full.distance;
+    let full_rest = full_at.remainder;
+    let full_eclipse = full.eclipse;
+    let full_from = full_eclipse.distance;
+    let full_over = full_from.remainder;
+    let side = nodes.side;
+    let side = side_number(side);
+    let new_marked = bit(new_eclipse.marked);
+    let full_marked = bit(full_eclipse.marked);
+    [
+        new_at.degrees,
+        new_rest.parts,
+        side,
+        new_marked,
+        new_from.degrees,
+        new_over.parts,
+        new_eclipse.size,
+        full_at.degrees,
+        full_rest.parts,
+        full_at.half,
+        full_marked,
+        full_from.degrees,
+        full_over.parts,
+        full_from.half,
+        full_eclipse.size,
+    ]
+}
+
+// A signed number by its sign and its size.
+pub fn sized(count: i64) -> Amount
+    ensures { λ r. ⌜ r ≡ sizedOf count ⌝ }
+{
+    match walking::sign_of(count) {
+        Sign::Up(n) => Amount {
+            minus: false,
+            size: n,
+        },
+        Sign::Down(n) => Amount {
+            minus: true,
+            size: n + 1,
+        },
+    }
+}
+
+pub fn corrections_fields(corrections: Corrections) -> [u64; 14]
+    ensures { λ r. ⌜ r ≡ correctionsFields corrections ⌝ }
+{
+    let new = corrections.new;
+    let new_at = new.anomaly;
+    let new_rest = new_at.rest;
+    let new_over = new.remainder;
+    let full = corrections.full;
+    let full_at = full.anomaly;
+    let full_rest = full_at.rest;
+    let full_over = full.remainder;
+    let new_by = sized(new.correction);
+    let full_by = sized(full.correction);
+    let new_minus = bit(new_by.minus);
+    let full_minus = bit(full_by.minus);
+    [
+        new_at.day,
+        new_rest.parts,
+        new_minus,
+        new_by.size,
+        new.day,
+        new_over.parts,
+        full_at.day,
+        full_rest.parts,
+        full_at.half,
+        full_minus,
+        full_by.size,
+        full.day,
+        full_over.parts,
+        full.half,
+    ]
+}
+
+pub fn point_fields(point: Point) -> [u64; 3]
+    ensures { λ r. ⌜ r ≡ pointFields point ⌝ }
+{
+    let rest = point.remainder;
+    [point.day, rest.parts, point.rest]
+}

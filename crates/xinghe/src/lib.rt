@@ -1,0 +1,136 @@
+// The Xinghe calendar for C and Rust: the functions of include/xinghe.h. Each takes any numbers, returns 0 or the number under which it
+// refuses, and writes its values as plain numbers to the arrays lent to it: zeros where it refuses.
+ghost use mathlib.Core.Path.{_≡_};
+ghost use lib.ListN.{length};
+ghost use Rattle.calendar.specs.Heads.{yearHead};
+ghost use Rattle.calendar.specs.Rows.{monthRow};
+ghost use Rattle.calendar.specs.Dates.{dayOfDate, dateOfDay};
+ghost use Rattle.calendar.specs.Answers.{headNumber, headValues, rowNumber, rowValues, dayNumber, dayValues, dateNumber, dateValues};
+ghost use Rattle.year_list.specs.Filled.{fillNumber};
+ghost use Rattle.ephemeris.specs.Jobs.{phasesAt, nodesAt, correctionsAt, cutPoint};
+ghost use Rattle.ephemeris.specs.Answers.{phasesNumber, phasesValues, nodesNumber, nodesValues, correctionsNumber, correctionsValues, pointNumber, pointValues};
+ghost use Rattle.xinghe.specs.Fields.{headFields, rowFields, dayFields, dateFields, phasesFields, nodesFields, correctionsFields, pointFields};
+ghost use Rattle.xinghe.specs.Lent.{carryOfFields};
+ghost use Rattle.xinghe.specs.Walks.{walkOfFields, walkNumber, walkValues, totalsFields};
+ghost use Rattle.xinghe.specs.Years.{fillAnswerIn, filledFields};
+
+pub mod fields;
+pub mod lent;
+pub mod walks;
+pub mod years;
+
+#[no_mangle]
+pub extern "C" fn xinghe_year_head(year: u64, out: &mut [u64; 6]) -> u64
+    ensures { λ r. ⌜ (r ≡ headNumber (yearHead year)) × (now (out .exit) ≡ headFields (headValues (yearHead year))) ⌝ }
+{
+    let answer = calendar::heads::year_head(year);
+    *out = fields::head_fields(answer.values());
+    answer.number()
+}
+
+#[no_mangle]
+pub extern "C" fn xinghe_month_row(year: u64, place: u64, out: &mut [u64; 8]) -> u64
+    ensures { λ r. ⌜ (r ≡ rowNumber (monthRow year place)) × (now (out .exit) ≡ rowFields (rowValues (monthRow year place))) ⌝ }
+{
+    let answer = calendar::rows::month_row(year, place);
+    *out = fields::row_fields(answer.values());
+    answer.number()
+}
+
+#[no_mangle]
+pub extern "C" fn xinghe_day_of_date(year: u64, place: u64, day: u64, out: &mut [u64; 2]) -> u64
+    ensures { λ r. ⌜ (r ≡ dayNumber (dayOfDate year place day)) × (now (out .exit) ≡ dayFields (dayValues (dayOfDate year place day))) ⌝ }
+{
+    let answer = calendar::dates::day_of_date(year, place, day);
+    *out = fields::day_fields(answer.values());
+    answer.number()
+}
+
+#[no_mangle]
+pub extern "C" fn xinghe_date_of_day(number: u64, out: &mut [u64; 3]) -> u64
+    ensures { λ r. ⌜ (r ≡ dateNumber (dateOfDay number)) × (now (out .exit) ≡ dateFields (dateValues (dateOfDay number))) ⌝ }
+{
+    let answer = calendar::dates::date_of_day(number);
+    *out = fields::date_fields(answer.values());
+    answer.number()
+}
+
+#[no_mangle]
+pub extern "C" fn xinghe_phases(year: u64, place: u64, out: &mut [u64; 12]) -> u64
+    ensures { λ r. ⌜ (r ≡ phasesNumber (phasesAt year place)) × (now (out .exit) ≡ phasesFields (phasesValues (phasesAt year place))) ⌝ }
+{
+    let answer = ephemeris::phases(year, place);
+    *out = fields::phases_fields(answer.values());
+    answer.number()
+}
+
+#[no_mangle]
+pub extern "C" fn xinghe_nodes(year: u64, place: u64, out: &mut [u64; 15]) -> u64
+    ensures { λ r. ⌜ (r ≡ nodesNumber (nodesAt year place)) × (now (out .exit) ≡ nodesFields (nodesValues (nodesAt year place))) ⌝ }
+{
+    let answer = ephemeris::nodes(year, place);
+    *out = fields::nodes_fields(answer.values());
+    answer.number()
+}
+
+#[no_mangle]
+pub extern "C" fn xinghe_corrections(year: u64, place: u64, out: &mut [u64; 14]) -> u64
+    ensures { λ r. ⌜ (r ≡ correctionsNumber (correctionsAt year place)) × (now (out .exit) ≡ correctionsFields (correctionsValues (correctionsAt year place))) ⌝ }
+{
+    let answer = ephemeris::corrections(year, place);
+    *out = fields::corrections_fields(answer.values());
+    answer.number()
+}
+
+#[no_mangle]
+pub extern "C" fn xinghe_cut_point(year: u64, cut: u64, index: u64, out: &mut [u64; 3]) -> u64
+    ensures { λ r. ⌜ (r ≡ pointNumber (cutPoint year cut index)) × (now (out .exit) ≡ pointFields (pointValues (cutPoint year cut index))) ⌝ }
+{
+    let answer = ephemeris::cut_point(year, cut, index);
+    *out = fields::point_fields(answer.values());
+    answer.number()
+}
+
+// `row` holds the eight numbers of a month's row.
+#[no_mangle]
+pub extern "C" fn xinghe_carry(row: &[u64; 8], count: i64, out: &mut [u64; 8]) -> u64
+    ensures { λ r. ⌜ (r ≡ rowNumber (carryOfFields (now (row .entry)) count)) × (now (out .exit) ≡ rowFields (rowValues (carryOfFields (now (row .entry)) count))) ⌝ }
+{
+    let answer = lent::carry_from(lent::row_of_fields(*row), count);
+    *out = fields::row_fields(answer.values());
+    answer.number()
+}
+
+// A row carried by each of the counts in turn, from a genuine row.
+#[no_mangle]
+pub extern "C" fn xinghe_walk(
+    row: &[u64; 8],
+    counts: &[i64],
+    out: &mut [u64; 8],
+    totals: &mut [u64; 3],
+) -> u64
+    ensures { λ r. ⌜ (r ≡ walkNumber (walkOfFields (now (row .entry)) (now (counts .entry)))) × (now (out .exit) ≡ rowFields (walkValues (walkOfFields (now (row .entry)) (now (counts .entry))) .row)) × (now (totals .exit) ≡ totalsFields (walkValues (walkOfFields (now (row .entry)) (now (counts .entry))))) ⌝ }
+{
+    let answer = walks::walk_from(lent::row_of_fields(*row), counts);
+    let end = answer.values();
+    let last = end.row;
+    *out = fields::row_fields(last);
+    *totals = walks::totals_fields(end);
+    answer.number()
+}
+
+// The year's rows, of eight numbers each, are stored by place at the front of the lent list, and the rest of it stays. Refused, nothing is
+// written.
+#[no_mangle]
+pub extern "C" fn xinghe_fill_year(year: u64, out: &mut [u64]) -> u64
+    ensures { λ r. ⌜ (r ≡ fillNumber (fillAnswerIn year (length (now (out .entry))))) × (now (out .exit) ≡ filledFields year (now (out .entry))) ⌝ }
+{
+    let answer = years::answer_in(year, out.len());
+    let n = answer.count() as usize;
+    let mut i = 0;
+    while i < n {
+        years::put(out, 8 * i, years::fields_at(year, i));
+        i += 1;
+    }
+    answer.number()
+}

@@ -1,0 +1,64 @@
+use borrow.Author.Needs.{needs}
+use Rattle.year_printer.proofs.read_year.Statement.{statement}
+use Rattle.year_printer.proofs.read_year.Tie as tie
+
+abbrev Inv-loop : tie.InvT-loop
+Inv-loop reader₀ turns₀ reader turns = Unit {0}
+
+abbrev μ-loop : tie.MeasureT-loop
+μ-loop reader₀ turns₀ reader turns = turns
+
+new-requires : tie.Need-new-requires Inv-loop μ-loop
+new-requires c κs = search needs
+
+loop-holds : tie.Need-loop-holds Inv-loop μ-loop
+loop-holds c = search needs
+
+sub-turns : tie.Need-sub-turns Inv-loop μ-loop
+sub-turns c = search needs
+
+next-byte-requires : tie.Need-next-byte-requires Inv-loop μ-loop
+next-byte-requires c κs = search needs
+
+enum-known-byte : tie.Need-enum-known-byte Inv-loop μ-loop
+enum-known-byte c = search needs
+
+returns : tie.Need-returns Inv-loop μ-loop
+returns c = search needs
+
+feed-requires : tie.Need-feed-requires Inv-loop μ-loop
+feed-requires c κs = search needs
+
+loop-less : tie.Need-loop-less Inv-loop μ-loop
+loop-less c = search needs
+
+loop-again : tie.Need-loop-again Inv-loop μ-loop
+loop-again c = search needs
+
+enum-told : tie.Need-enum-told Inv-loop μ-loop
+enum-told c = search needs
+
+returns-2 : tie.Need-returns-2 Inv-loop μ-loop
+returns-2 c = search needs
+
+returns-3 : tie.Need-returns-3 Inv-loop μ-loop
+returns-3 c = search needs
+
+pub read-year-spec : {M : Type 1} → statement M
+read-year-spec =
+    tie.close
+    (tie.spec
+    Inv-loop
+    μ-loop
+    new-requires
+    loop-holds
+    sub-turns
+    next-byte-requires
+    enum-known-byte
+    returns
+    feed-requires
+    loop-less
+    loop-again
+    enum-told
+    returns-2
+    returns-3)

@@ -1,0 +1,11 @@
+-- What a writer does to a lent buffer: the text stands at its place, and before it all is as it was.
+-- Assumes nothing.
+use mathlib.Core.Path.{_≡_}
+use mathlib.Core.List.{List, _++_}
+use Prim.Native.Nat.{ℕ, _+_}
+use lib.ListN.{length, take}
+
+pub record Wrote (before after : List ℕ) (at end : ℕ) (text : List ℕ) : Type 0 where
+  pub long : length after ≡ length before
+  pub next : end ≡ at + length text
+  pub front : take end after ≡ take at before ++ text

@@ -1,0 +1,168 @@
+/* The Xinghe calendar of the Wei shu.
+ *
+ * Every function takes any numbers whatever. It returns 0 where it answers and
+ * writes its values to the arrays that the caller lends. Where it refuses it
+ * returns one of the numbers below and writes zeros; xinghe_fill_year writes
+ * nothing then. The lowest number that applies is returned.
+ *
+ * number returned     given exactly when
+ *   0                 answered
+ *   1                 the year is outside 1 to 1,011,600
+ *   2                 the place is not below the year's month count
+ *   3                 the day of the month is 0 or past the month's length
+ *   4                 a handed-in row differs in any field from the month of
+ *                     the round that it names, or names none
+ *   5                 a carry would end outside the round
+ *   6                 the lent list is too short for the year's rows
+ *   7                 the day number is above 369,481,019
+ *   8                 the cut is not 24, 60 or 72, or the point not below it
+ *
+ * Years are written from 1. A place is a month's index in its year, from 0;
+ * place 0 is the eleventh month. Days are counted from the origin, from 0, and
+ * day 0 is jiazi. Months of the round (lunations) are counted from 0. A
+ * remainder of a day or a degree is over 208,530, that of a solstice or of a
+ * cut's point over 16,860.
+ *
+ * What the caller sees to: a pointer is not null and is aligned, also where the
+ * length beside it is 0; it points to as many numbers as its parameter or the
+ * length beside it says; and an array that is written overlaps no other
+ * argument.
+ *
+ * x86-64 Linux; link libxinghe.a, which `rt staticlib xinghe` makes. */
+#ifndef XINGHE_H
+#define XINGHE_H
+
+#include <stddef.h>
+#include <stdint.h>
+
+#ifdef __cplusplus
+extern "C" {
+#endif
+
+/* The numbers returned. */
+enum {
+    XINGHE_ANSWERED = 0,
+    XINGHE_YEAR = 1,
+    XINGHE_PLACE = 2,
+    XINGHE_DAY_OF_MONTH = 3,
+    XINGHE_ROW = 4,
+    XINGHE_CARRY = 5,
+    XINGHE_LIST = 6,
+    XINGHE_DAY = 7,
+    XINGHE_CUT = 8
+};
+
+/* A year's head. Refused: 1.
+ * out[0]  months of the round before the year
+ * out[1]  leap remainder, over 562
+ * out[2]  month count, 12 or 13
+ * out[3]  place of the leap month, 0 where there is none
+ * out[4]  day of the winter solstice
+ * out[5]  its remainder, over 16,860 */
+uint64_t xinghe_year_head(uint64_t year, uint64_t out[6]);
+
+/* The row of the month at a place of a year. Refused: 1, 2.
+ * out[0]  month of the round
+ * out[1]  year
+ * out[2]  place
+ * out[3]  month number, 1 to 12; a leap month has that of the month before it
+ * out[4]  1 for the leap month, else 0
+ * out[5]  first day
+ * out[6]  small remainder of the new moon, over 208,530
+ * out[7]  length, 29 or 30 days */
+uint64_t xinghe_month_row(uint64_t year, uint64_t place, uint64_t out[8]);
+
+/* The day of a date; days of a month are counted from 1. Refused: 1, 2, 3.
+ * out[0]  day number
+ * out[1]  day of the sixty, 0 to 59 */
+uint64_t xinghe_day_of_date(uint64_t year, uint64_t place, uint64_t day,
+                            uint64_t out[2]);
+
+/* The date of a day. Refused: 7.
+ * out[0]  year
+ * out[1]  place
+ * out[2]  day of the month, from 1 */
+uint64_t xinghe_date_of_day(uint64_t number, uint64_t out[3]);
+
+/* The row so many months on, or back where the count is negative. The row is
+ * handed in as xinghe_month_row writes it. Refused: 4, 5.
+ * out     the row reached, as xinghe_month_row writes it */
+uint64_t xinghe_carry(const uint64_t row[8], int64_t count, uint64_t out[8]);
+
+/* A row carried by each of the counts in turn; a count that would lead outside
+ * the round is passed over. Refused: 4.
+ * counts     the counts, of which there are `length`
+ * out        the last row, as xinghe_month_row writes it
+ * totals[0]  1 where the sum of the answered counts is below 0, else 0
+ * totals[1]  the size of that sum
+ * totals[2]  how many counts were answered */
+uint64_t xinghe_walk(const uint64_t row[8], const int64_t *counts,
+                     size_t length, uint64_t out[8], uint64_t totals[3]);
+
+/* The rows of a whole year, at the front of a lent list of `length` numbers:
+ * eight numbers for each month, by place, as xinghe_month_row writes them. The
+ * numbers past the rows stay as they were; refused, all of them do. 104 numbers
+ * are enough for any year. Refused: 1, 6 (fewer than eight for each month). */
+uint64_t xinghe_fill_year(uint64_t year, uint64_t *out, size_t length);
+
+/* The four phases of a month. Refused: 1, 2.
+ * out[0] to out[2]   new moon: day, remainder over 208,530, quarters of a part
+ * out[3] to out[5]   first quarter: the same
+ * out[6] to out[8]   full moon: the same
+ * out[9] to out[11]  last quarter: the same */
+uint64_t xinghe_phases(uint64_t year, uint64_t place, uint64_t out[12]);
+
+/* The moon's nodes and eclipses of a month. Refused: 1, 2. Where no eclipse is
+ * marked its distance and size are 0.
+ * new moon
+ * out[0]   degrees since the last node
+ * out[1]   their remainder, over 208,530
+ * out[2]   side of the road: 0 at the node, 1 outside, 2 inside
+ * out[3]   1 where an eclipse is marked, else 0
+ * out[4]   degrees of the eclipse from the node
+ * out[5]   their remainder, over 208,530
+ * out[6]   size of the eclipse, 1 to 15
+ * full moon
+ * out[7]   degrees since the last node
+ * out[8]   their remainder, over 208,530
+ * out[9]   and half a part more: 0 or 1
+ * out[10]  1 where an eclipse is marked, else 0
+ * out[11]  degrees of the eclipse from the node
+ * out[12]  their remainder, over 208,530
+ * out[13]  and half a part more: 0 or 1
+ * out[14]  size of the eclipse, 1 to 15 */
+uint64_t xinghe_nodes(uint64_t year, uint64_t place, uint64_t out[15]);
+
+/* The moon's corrections of a month. Refused: 1, 2. A correction above 0 is
+ * taken from the phase's remainder, one below 0 is added.
+ * new moon
+ * out[0]   day of the anomaly, 1 to 28
+ * out[1]   its rest, over 208,530
+ * out[2]   1 where the correction is below 0, else 0
+ * out[3]   size of the correction
+ * out[4]   corrected day
+ * out[5]   corrected remainder, over 208,530
+ * full moon
+ * out[6]   day of the anomaly, 1 to 28
+ * out[7]   its rest, over 208,530
+ * out[8]   and half a part more: 0 or 1
+ * out[9]   1 where the correction is below 0, else 0
+ * out[10]  size of the correction
+ * out[11]  corrected day
+ * out[12]  corrected remainder, over 208,530
+ * out[13]  and half a part more: 0 or 1 */
+uint64_t xinghe_corrections(uint64_t year, uint64_t place, uint64_t out[14]);
+
+/* A point of a cut of the year: 24 terms, 72 pentads or 60 hexagram days, from
+ * the winter solstice at index 0. Refused: 1, 8.
+ * out[0]  day
+ * out[1]  remainder, over 16,860
+ * out[2]  rest of a part, over the cut */
+uint64_t xinghe_cut_point(uint64_t year, uint64_t cut, uint64_t index,
+                          uint64_t out[3]);
+
+#ifdef __cplusplus
+}
+#endif
+
+#endif
