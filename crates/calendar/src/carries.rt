@@ -6,7 +6,8 @@ use units::Xinghe;
 use walking::Target;
 ghost use mathlib.Core.Path.{_≡_};
 ghost use lib.IntN.{pos, negsuc};
-ghost use Rattle.calendar.specs.Carries.{sameRow, carried};
+ghost use Rattle.walking.specs.Walk.{genuine};
+ghost use Rattle.calendar.specs.Carries.{sameRow, months, carried};
 
 // Whether two rows are the same in every field.
 pub fn same_row(a: MonthRow, b: MonthRow) -> bool
@@ -25,15 +26,23 @@ pub fn same_row(a: MonthRow, b: MonthRow) -> bool
 }
 
 impl MonthRow {
+    // Whether the row is that of the month of the round that it names.
+    pub fn is_genuine(self) -> bool
+        ensures { λ r. ⌜ r ≡ genuine months self ⌝ }
+    {
+        let m = self.lunation;
+        if Xinghe::MONTHS <= m {
+            return false;
+        }
+        same_row(self, crate::rows::row_of(m))
+    }
+
     // The row so many months on, or back.
     pub fn carry(self, count: i64) -> RowAnswer
         ensures { λ r. ⌜ r ≡ carried self count ⌝ }
     {
         let m = self.lunation;
-        if Xinghe::MONTHS <= m {
-            return RowAnswer::Refused(Refusal::Row);
-        }
-        if same_row(self, crate::rows::row_of(m)) {
+        if self.is_genuine() {
             match walking::reach(Xinghe::MONTHS, m, count) {
                 Target::Month(k) => RowAnswer::Answered(crate::rows::row_of(k)),
                 Target::Outside => RowAnswer::Refused(Refusal::Carry),

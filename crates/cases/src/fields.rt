@@ -1,9 +1,9 @@
 // Answers on a line: their values in the order in which every line of their question has them.
-use crate::lines::Line;
 use anomaly::Anomaly;
 use anomaly::Corrected;
 use calendar::MonthRow;
 use calendar::YearHead;
+use lines::Line;
 use moon::phases::Phase;
 use moon::phases::Phases;
 use node::Distance;

@@ -1,7 +1,6 @@
 // The cases: full answers for chosen years, then refusals and edges, in the lines that the independent second program writes.
 mod edges;
 mod fields;
-mod lines;
 mod questions;
 mod years;
 

@@ -1,6 +1,5 @@
 // Questions: each writes one line, what is asked and then its values or the number of its refusal.
 use crate::fields;
-use crate::lines::Line;
 use calendar::DateAnswer;
 use calendar::DayAnswer;
 use calendar::HeadAnswer;
@@ -9,6 +8,7 @@ use ephemeris::CorrectionsAnswer;
 use ephemeris::NodesAnswer;
 use ephemeris::PhasesAnswer;
 use ephemeris::PointAnswer;
+use lines::Line;
 use units::remainder::DayRemainder;
 ghost use Prim.Native.Nat.{_<_};
 ghost use Rattle.units.specs.Xinghe.{roundMonths};

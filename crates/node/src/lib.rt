@@ -161,7 +161,9 @@ fn side_of(lunation: u64) -> Side
     let since = distance + lunation % Xinghe::ERA * Xinghe::P;
     let passed = since / Xinghe::M;
     let side = head.side;
-    if passed % 2 == 0 { side } else { turn(side) }
+    // taken beforehand, so that the compiler chooses between two values and does not jump
+    let other = turn(side);
+    if passed % 2 == 0 { side } else { other }
 }
 
 pub fn nodes_of(lunation: u64) -> Nodes

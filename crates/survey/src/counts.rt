@@ -1,7 +1,7 @@
 // Counts over the months and years of an era, or of the round. Sums wrap instead of asking for a bound: no count reaches 2^24.
 use crate::fields;
-use crate::lines::Line;
 use calendar::MonthRow;
+use lines::Line;
 use node::Nodes;
 
 pub struct Counts {

@@ -3,7 +3,6 @@
 mod counts;
 mod digest;
 mod fields;
-mod lines;
 mod years;
 
 use lines::Line;

@@ -2,7 +2,7 @@
 use crate::counts::Counts;
 use crate::digest::Digest;
 use crate::fields;
-use crate::lines::Line;
+use lines::Line;
 ghost use Prim.Native.Nat.{_<_};
 
 // The years of an era (紀).

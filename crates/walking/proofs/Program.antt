@@ -2,7 +2,7 @@
 -- Assumes nothing.
 use Prim.Native.Nat.{ℕ, _+_, _<_, _≤_}
 use mathlib.Core.Path.{_≡_, refl, sym, ap, _∙_}
-use mathlib.Core.Bool.{Bool, true, false, _&&_, and-false}
+use mathlib.Core.Bool.{Bool, true, false, _&&_}
 use mathlib.Core.List.{List, [], _∷_}
 use native.Mathlib.Omega.{arith}
 use native.Mathlib.Nat.{le-antisymm}
@@ -17,6 +17,7 @@ use Rattle.refusal.specs.declared.Refusal.{Refusal}
 use Rattle.walking.specs.Walk.{Calendar, Answer, answered, refused, inRound, genuine, carry, stand, one, walk, number}
 use Rattle.walking.specs.Signed.{targetOf}
 use Rattle.walking.specs.declared.Target.{Target}
+use Rattle.walking.proofs.Walks.{and-both}
 
 -- a month is reached only inside the round
 reached : (b : Bool) (n k : ℕ) → Target.Month k ≡ pick b (Target.Month n) Target.Outside → (b ≡ true) × (n ≡ k)
@@ -37,15 +38,20 @@ reached-below size z k e =
     omega (arith, inside size z (p .0), p .1)
 
 module _ {R : Type 0} (C : Calendar R) (r : R) where
-  pub own : (o : R) → C .month r < C .size → o ≡ C .row (C .month r) → C .same r o ≡ true → genuine C r ≡ true
-  own o h e t = rw (lt-ltb (C .month r) (C .size) h, ← e) t
+  -- a genuine row names a month of the round
+  pub own-month : genuine C r ≡ true → C .month r < C .size
+  own-month g = ltb-true (C .month r) (C .size) (and-both (ltb (C .month r) (C .size)) (C .same r (C .row (C .month r))) g .0)
+
+  -- where the code's two tests end
+  pub far : C .size ≤ C .month r → genuine C r ≡ false
+  far h = rw (le-ltb (C .month r) (C .size) h)
+
+  pub near : C .month r < C .size → genuine C r ≡ C .same r (C .row (C .month r))
+  near h = rw (lt-ltb (C .month r) (C .size) h)
 
   module _ (c : ℤ) where
-    pub carry-far : C .size ≤ C .month r → carry C r c ≡ refused Refusal.Row
-    carry-far h = rw (le-ltb (C .month r) (C .size) h)
-
-    pub carry-other : (o : R) → o ≡ C .row (C .month r) → C .same r o ≡ false → carry C r c ≡ refused Refusal.Row
-    carry-other o e t = rw (← e, t, and-false (ltb (C .month r) (C .size)))
+    pub carry-forged : genuine C r ≡ false → carry C r c ≡ refused Refusal.Row
+    carry-forged g = rw g
 
     pub carry-month : genuine C r ≡ true → (k : ℕ) → Target.Month k ≡ targetOf (C .size) (pos (C .month r) +ℤ c) → carry C r c ≡ answered (C .row k)
     carry-month g k e =

@@ -2,11 +2,8 @@
 use calendar::MonthRow;
 use calendar::RowAnswer;
 use refusal::Refusal;
-use units::Xinghe;
 use walk::Walked;
 ghost use mathlib.Core.Path.{_≡_};
-ghost use Rattle.walking.specs.Walk.{genuine};
-ghost use Rattle.calendar.specs.Carries.{months};
 ghost use Rattle.xinghe.specs.Walks.{walkedFrom, walkNumber, walkValues, zeroWalk, totalsFields};
 
 pub enum WalkAnswer {
@@ -45,23 +42,12 @@ fn zero_walk() -> Walked
     }
 }
 
-// Whether a row is the row of the month of the round that it names.
-fn is_genuine(row: MonthRow) -> bool
-    ensures { λ r. ⌜ r ≡ genuine months row ⌝ }
-{
-    let m = row.lunation;
-    if Xinghe::MONTHS <= m {
-        return false;
-    }
-    calendar::carries::same_row(row, calendar::rows::row_of(m))
-}
-
 pub fn walk_from(start: RowAnswer, counts: &[i64]) -> WalkAnswer
     ensures { λ r. ⌜ r ≡ walkedFrom start (now (counts .entry)) ⌝ }
 {
     match start {
         RowAnswer::Answered(row) => {
-            if is_genuine(row) {
+            if row.is_genuine() {
                 WalkAnswer::Answered(walk::walk(row, counts))
             } else {
                 WalkAnswer::Refused(Refusal::Row)

@@ -1,6 +1,4 @@
 // A whole year's rows in a lent list of numbers.
-use calendar::HeadAnswer;
-use refusal::Refusal;
 use year_list::FillAnswer;
 ghost use mathlib.Core.Path.{_≡_};
 ghost use Prim.Native.Nat.{_+_, _≤_};
@@ -14,17 +12,7 @@ ghost use Rattle.xinghe.specs.Years.{fillAnswerIn};
 pub fn answer_in(year: u64, have: usize) -> FillAnswer
     ensures { λ r. ⌜ r ≡ fillAnswerIn year have ⌝ }
 {
-    let places = (have / 8) as u64;
-    match calendar::heads::year_head(year) {
-        HeadAnswer::Answered(head) => {
-            if head.months <= places {
-                FillAnswer::Filled(head.months)
-            } else {
-                FillAnswer::Refused(Refusal::List)
-            }
-        }
-        HeadAnswer::Refused(e) => FillAnswer::Refused(e),
-    }
+    year_list::answer_of(year, have / 8)
 }
 
 // The numbers of the row at a place of the year.

@@ -34,7 +34,7 @@ impl FillAnswer {
 }
 
 // The answer for a list of that many rows.
-fn answer_of(year: u64, have: usize) -> FillAnswer
+pub fn answer_of(year: u64, have: usize) -> FillAnswer
     ensures { λ r. ⌜ r ≡ fillAnswer year have ⌝ }
 {
     match calendar::heads::year_head(year) {

@@ -96,16 +96,7 @@ fn carry_lines() -> [String; 9] {
 }
 
 fn head(number: u64) -> String {
-    let answer = ask::year(number).map(|year| {
-        joined(&[
-            year.months_before,
-            year.leap_remainder,
-            year.months.len() as u64,
-            year.leap_place,
-            year.solstice.day,
-            year.solstice.remainder,
-        ])
-    });
+    let answer = ask::year(number).map(|year| joined(&fields::head(&year)));
     line(format!("head {number}"), answer)
 }
 

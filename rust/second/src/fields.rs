@@ -1,8 +1,21 @@
-//! A month's answers as plain numbers, in the order in which they are written.
+//! A year's and a month's answers as plain numbers, in the order in which they are written.
 
 use crate::instants::SunPoint;
 use crate::nodes::Side;
-use crate::walker::Month;
+use crate::walker::{Month, Year};
+
+/// Months before, leap remainder, months, leap place, day and remainder of the
+/// solstice.
+pub fn head(year: &Year) -> [u64; 6] {
+    [
+        year.months_before,
+        year.leap_remainder,
+        year.months.len() as u64,
+        year.leap_place,
+        year.solstice.day,
+        year.solstice.remainder,
+    ]
+}
 
 pub fn point(point: &SunPoint) -> [u64; 3] {
     [point.day, point.remainder, point.rest]

@@ -1,4 +1,4 @@
-//! `second cases`, `second survey` or `second runs`, written to standard output.
+//! `second cases`, `second survey` or `second year_runs`, written to standard output.
 
 use std::io::{self, BufWriter, Write};
 use std::process::ExitCode;
@@ -11,9 +11,9 @@ fn main() -> ExitCode {
     let written = match arguments.as_slice() {
         [what] if what == "cases" => cases::write(&mut out),
         [what] if what == "survey" => survey::write(&mut out),
-        [what] if what == "runs" => printer::write_runs(&mut out),
+        [what] if what == "year_runs" => printer::write_runs(&mut out),
         _ => {
-            eprintln!("usage: second cases | second survey | second runs");
+            eprintln!("usage: second cases | second survey | second year_runs");
             return ExitCode::from(2);
         }
     };

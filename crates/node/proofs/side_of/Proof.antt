@@ -40,11 +40,11 @@ turn-requires c κs = search needs
 
 returns-2 : tie.Need-returns-2
 unfolding sideOf passed
-returns-2 c = simp (ne-eqb _ _ (c .before .before .before .before .if1 .left), eq-eqb _ _ (c .if2 .taken))
+returns-2 c = simp (ne-eqb _ _ (c .before .before .before .before .before .if1 .left), eq-eqb _ _ (c .if2 .taken))
 
 returns-3 : tie.Need-returns-3
 unfolding sideOf passed
-returns-3 c = simp (ne-eqb _ _ (c .before .before .before .before .before .if1 .left), ne-eqb _ _ (c .before .if2 .left)) (c .turn .ensures)
+returns-3 c = simp (ne-eqb _ _ (c .before .before .before .before .before .if1 .left), ne-eqb _ _ (c .if2 .left)) (c .before .turn .ensures)
 
 pub side-of-spec : {M : Type 1} → statement M
 side-of-spec =

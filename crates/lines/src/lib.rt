@@ -1,4 +1,6 @@
-// Lines of output. A line is built by value and written by one system call.
+// Lines of output for the programs cases and survey. A line is built by value and written by one system call, since a call for each number would take most of the run.
+use refusal::Refusal;
+use walking::Sign;
 
 // The longest line has 164 bytes and its end. What does not fit is left out, so that building a line asks nothing of its caller.
 pub struct Line {
@@ -39,11 +41,31 @@ impl Line {
         line
     }
 
-    // A number after a space, as every number of a line stands.
-    pub fn number(self, number: u64) -> Self {
+    fn digits(self, number: u64) -> Self {
         let mut digits = [0u8; 20];
         let count = io::decimal(number, &mut digits);
-        self.byte(b' ').text(&digits[..count])
+        self.text(&digits[..count])
+    }
+
+    // A number after a space, as every number of a line stands.
+    pub fn number(self, number: u64) -> Self {
+        self.byte(b' ').digits(number)
+    }
+
+    pub fn signed(self, number: i64) -> Self {
+        match walking::sign_of(number) {
+            Sign::Up(n) => self.number(n),
+            // `Down(n)` is -(n + 1), which has a size even at the least i64
+            Sign::Down(n) => self.text(b" -").digits(std::num::wrapping_add_u64(n, 1)),
+        }
+    }
+
+    pub fn leap_mark(self, leap: bool) -> Self {
+        if leap {
+            self.text(b" L")
+        } else {
+            self.text(b" -")
+        }
     }
 
     // Ends and writes the line.
@@ -51,5 +73,10 @@ impl Line {
         let ended = self.byte(b'\n');
         let bytes = ended.bytes;
         send(&bytes, ended.len);
+    }
+
+    // Writes the question with the number of its refusal.
+    pub fn refuse(self, refusal: Refusal) {
+        self.text(b" refused").number(refusal.number()).write();
     }
 }

@@ -1,8 +1,8 @@
 use Prim.Native.Nat.{_≤_, _-_}
 use lib.ListN.{length}
 use borrow.Author.Needs.{needs}
-use Rattle.cases.proofs.lines.Line.text.Statement.{statement}
-use Rattle.cases.proofs.lines.Line.text.Tie as tie
+use Rattle.lines.proofs.Line.text.Statement.{statement}
+use Rattle.lines.proofs.Line.text.Tie as tie
 
 abbrev Inv-loop : tie.InvT-loop
 Inv-loop text line₀ i₀ line i = i ≤ length text

@@ -1,0 +1,137 @@
+//! The jobs by closed formulas, written for speed and proved by nothing: the
+//! benchmark first checks that they answer what the library answers.
+//!
+//! The functions here are those of include/xinghe.h: same arguments, same
+//! number returned, same values written, zeros where they refuse. They are
+//! never inlined, since the library's cannot be; what they are made of is.
+
+mod anomaly;
+mod node;
+mod rows;
+
+pub use rows::{ROUND_DAYS, ROUND_MONTHS, ROUND_YEARS};
+
+/// Writes the answer, or zeros, and returns the number.
+#[inline]
+fn written<const LENGTH: usize>(
+    answer: Result<[u64; LENGTH], u64>,
+    out: &mut [u64; LENGTH],
+) -> u64 {
+    match answer {
+        Ok(values) => {
+            *out = values;
+            0
+        }
+        Err(number) => {
+            *out = [0; LENGTH];
+            number
+        }
+    }
+}
+
+#[inline(never)]
+pub extern "C" fn year_head(year: u64, out: &mut [u64; 6]) -> u64 {
+    written(rows::head(year), out)
+}
+
+#[inline(never)]
+pub extern "C" fn month_row(year: u64, place: u64, out: &mut [u64; 8]) -> u64 {
+    let lunation = rows::lunation(year, place);
+    let row = lunation.map(|lunation| rows::row_at(year - 1, place, lunation));
+    written(row, out)
+}
+
+#[inline(never)]
+pub extern "C" fn day_of_date(year: u64, place: u64, day: u64, out: &mut [u64; 2]) -> u64 {
+    written(rows::day(year, place, day), out)
+}
+
+#[inline(never)]
+pub extern "C" fn date_of_day(number: u64, out: &mut [u64; 3]) -> u64 {
+    written(rows::date(number), out)
+}
+
+#[inline(never)]
+pub extern "C" fn carry(row: &[u64; 8], count: i64, out: &mut [u64; 8]) -> u64 {
+    written(rows::carried(row, count), out)
+}
+
+#[inline(never)]
+pub extern "C" fn phases(year: u64, place: u64, out: &mut [u64; 12]) -> u64 {
+    written(rows::lunation(year, place).map(rows::phases), out)
+}
+
+#[inline(never)]
+pub extern "C" fn nodes(year: u64, place: u64, out: &mut [u64; 15]) -> u64 {
+    written(rows::lunation(year, place).map(node::nodes), out)
+}
+
+#[inline(never)]
+pub extern "C" fn corrections(year: u64, place: u64, out: &mut [u64; 14]) -> u64 {
+    let lunation = rows::lunation(year, place);
+    written(lunation.map(anomaly::corrections), out)
+}
+
+#[inline(never)]
+pub extern "C" fn corrections_from_rates(year: u64, place: u64, out: &mut [u64; 14]) -> u64 {
+    let lunation = rows::lunation(year, place);
+    written(lunation.map(anomaly::corrections_from_rates), out)
+}
+
+#[inline(never)]
+pub extern "C" fn cut_point(year: u64, cut: u64, index: u64, out: &mut [u64; 3]) -> u64 {
+    written(rows::cut_point(year, cut, index), out)
+}
+
+/// The month alone is moved; one row is worked out at the end.
+#[inline(never)]
+pub fn walk(row: &[u64; 8], counts: &[i64], out: &mut [u64; 8], totals: &mut [u64; 3]) -> u64 {
+    if !rows::is_genuine(row) {
+        (*out, *totals) = ([0; 8], [0; 3]);
+        return 4;
+    }
+    let (mut month, mut answered) = (row[0], 0);
+    for &count in counts {
+        if let Some(next) = rows::moved(month, count) {
+            month = next;
+            answered += 1;
+        }
+    }
+    *out = rows::row_of(month);
+    *totals = [u64::from(month < row[0]), month.abs_diff(row[0]), answered];
+    0
+}
+
+/// The same walk as the library goes it: every carry is handed the row before
+/// it, looks whether it is genuine and works out the next.
+#[inline(never)]
+pub fn walk_by_rows(
+    row: &[u64; 8],
+    counts: &[i64],
+    out: &mut [u64; 8],
+    totals: &mut [u64; 3],
+) -> u64 {
+    if !rows::is_genuine(row) {
+        (*out, *totals) = ([0; 8], [0; 3]);
+        return 4;
+    }
+    let (mut last, mut next, mut answered) = (*row, [0; 8], 0);
+    for &count in counts {
+        if carry(&last, count, &mut next) == 0 {
+            last = next;
+            answered += 1;
+        }
+    }
+    *out = last;
+    *totals = [
+        u64::from(last[0] < row[0]),
+        last[0].abs_diff(row[0]),
+        answered,
+    ];
+    0
+}
+
+#[inline(never)]
+pub fn fill_year(year: u64, out: &mut [u64]) -> u64 {
+    rows::fill(year, out)
+}

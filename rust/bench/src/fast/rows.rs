@@ -1,0 +1,190 @@
+//! Years, months and days.
+
+pub const N: u64 = 208_530;
+pub const D: u64 = 16_860;
+pub const P: u64 = 6_158_017;
+
+const CHAPTER_YEARS: u64 = 562;
+const CHAPTER_MONTHS: u64 = 6_951;
+/// The least leap remainder of a year of 13 months.
+const LEAP_FROM: u64 = 355;
+const LONG_FROM: u64 = 97_883;
+
+pub const ROUND_YEARS: u64 = 1_011_600;
+pub const ROUND_MONTHS: u64 = 12_511_800;
+pub const ROUND_DAYS: u64 = 369_481_020;
+
+#[inline]
+fn months_before(past: u64) -> u64 {
+    past * CHAPTER_MONTHS / CHAPTER_YEARS
+}
+
+/// 0 where there is none.
+#[inline]
+fn leap_place(past: u64) -> u64 {
+    let remainder = past * CHAPTER_MONTHS % CHAPTER_YEARS;
+    if remainder < LEAP_FROM {
+        0
+    } else {
+        (6_744 - 12 * remainder).div_ceil(207)
+    }
+}
+
+/// The years before a year, and its month count.
+#[inline]
+fn past_and_months(year: u64) -> Result<(u64, u64), u64> {
+    let past = year.wrapping_sub(1);
+    if past >= ROUND_YEARS {
+        return Err(1);
+    }
+    Ok((past, months_before(year) - months_before(past)))
+}
+
+#[inline]
+pub fn head(number: u64) -> Result<[u64; 6], u64> {
+    let (past, months) = past_and_months(number)?;
+    Ok([
+        months_before(past),
+        past * CHAPTER_MONTHS % CHAPTER_YEARS,
+        months,
+        leap_place(past),
+        past * P / D,
+        past * P % D,
+    ])
+}
+
+#[inline]
+pub fn lunation(number: u64, place: u64) -> Result<u64, u64> {
+    let (past, months) = past_and_months(number)?;
+    if place >= months {
+        return Err(2);
+    }
+    Ok(months_before(past) + place)
+}
+
+#[inline]
+fn length(remainder: u64) -> u64 {
+    29 + u64::from(remainder >= LONG_FROM)
+}
+
+#[inline]
+pub fn row_at(past: u64, place: u64, lunation: u64) -> [u64; 8] {
+    named_row(past, place, lunation, leap_place(past))
+}
+
+#[inline]
+fn named_row(past: u64, place: u64, lunation: u64, leap: u64) -> [u64; 8] {
+    let counted = place - u64::from(leap != 0 && place >= leap);
+    let remainder = lunation * P % N;
+    [
+        lunation,
+        past + 1,
+        place,
+        (counted + 10) % 12 + 1,
+        u64::from(leap != 0 && place == leap),
+        lunation * P / N,
+        remainder,
+        length(remainder),
+    ]
+}
+
+/// The row of a month of the round.
+#[inline]
+pub fn row_of(lunation: u64) -> [u64; 8] {
+    let past = (CHAPTER_YEARS * lunation + CHAPTER_YEARS - 1) / CHAPTER_MONTHS;
+    row_at(past, lunation - months_before(past), lunation)
+}
+
+#[inline]
+pub fn is_genuine(row: &[u64; 8]) -> bool {
+    row[0] < ROUND_MONTHS && *row == row_of(row[0])
+}
+
+/// The month of the round so many months on.
+#[inline]
+pub fn moved(lunation: u64, count: i64) -> Option<u64> {
+    // A sum below 0 wraps to a number far past the round; no count is large
+    // enough to bring it back into the round from there.
+    let next = lunation.wrapping_add_signed(count);
+    (next < ROUND_MONTHS).then_some(next)
+}
+
+#[inline]
+pub fn carried(row: &[u64; 8], count: i64) -> Result<[u64; 8], u64> {
+    if !is_genuine(row) {
+        return Err(4);
+    }
+    moved(row[0], count).map(row_of).ok_or(5)
+}
+
+#[inline]
+pub fn day(year: u64, place: u64, day: u64) -> Result<[u64; 2], u64> {
+    let lunation = lunation(year, place)?;
+    let index = day.wrapping_sub(1);
+    if index >= length(lunation * P % N) {
+        return Err(3);
+    }
+    let number = lunation * P / N + index;
+    Ok([number, number % 60])
+}
+
+#[inline]
+pub fn date(number: u64) -> Result<[u64; 3], u64> {
+    if number >= ROUND_DAYS {
+        return Err(7);
+    }
+    let lunation = (number * N + N - 1) / P;
+    let past = (CHAPTER_YEARS * lunation + CHAPTER_YEARS - 1) / CHAPTER_MONTHS;
+    let place = lunation - months_before(past);
+    Ok([past + 1, place, number - lunation * P / N + 1])
+}
+
+#[inline]
+pub fn phases(lunation: u64) -> [u64; 12] {
+    let mut all = [0; 12];
+    for (quarter, phase) in all.chunks_exact_mut(3).enumerate() {
+        let quarters = (4 * lunation + quarter as u64) * P;
+        phase[0] = quarters / (4 * N);
+        phase[1] = quarters / 4 % N;
+        phase[2] = quarters % 4;
+    }
+    all
+}
+
+#[inline]
+pub fn cut_point(number: u64, cut: u64, index: u64) -> Result<[u64; 3], u64> {
+    let (past, _) = past_and_months(number)?;
+    if index >= cut {
+        return Err(8);
+    }
+    // Each cut by its own constant: a division by a variable takes far longer.
+    match cut {
+        24 => Ok(point::<24>(past, index)),
+        60 => Ok(point::<60>(past, index)),
+        72 => Ok(point::<72>(past, index)),
+        _ => Err(8),
+    }
+}
+
+#[inline]
+fn point<const CUT: u64>(past: u64, index: u64) -> [u64; 3] {
+    let parts = (CUT * past + index) * P;
+    [parts / (CUT * D), parts / CUT % D, parts % CUT]
+}
+
+#[inline]
+pub fn fill(number: u64, out: &mut [u64]) -> u64 {
+    let (past, months) = match past_and_months(number) {
+        Ok(found) => found,
+        Err(number) => return number,
+    };
+    let Some(list) = out.get_mut(..8 * months as usize) else {
+        return 6;
+    };
+    let (before, leap) = (months_before(past), leap_place(past));
+    for (place, row) in list.chunks_exact_mut(8).enumerate() {
+        let place = place as u64;
+        row.copy_from_slice(&named_row(past, place, before + place, leap));
+    }
+    0
+}

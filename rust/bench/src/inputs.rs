@@ -1,0 +1,94 @@
+//! The benchmark's inputs: the same in every run, all of them answered.
+
+use bench::fast;
+
+/// Enough that no branch predictor learns them by heart.
+pub const COUNT: usize = 1 << 16;
+pub const WALKS: usize = 64;
+pub const STEPS: usize = 1_000;
+
+pub struct Inputs {
+    pub months: Vec<(u64, u64)>,
+    pub dates: Vec<(u64, u64, u64)>,
+    pub days: Vec<u64>,
+    pub carries: Vec<([u64; 8], i64)>,
+    pub walks: Vec<([u64; 8], Vec<i64>)>,
+    pub years: Vec<u64>,
+    pub points: Vec<(u64, u64, u64)>,
+}
+
+struct Random {
+    state: u64,
+}
+
+impl Random {
+    /// splitmix64
+    fn below(&mut self, limit: u64) -> u64 {
+        self.state = self.state.wrapping_add(0x9e37_79b9_7f4a_7c15);
+        let mut z = self.state;
+        z = (z ^ (z >> 30)).wrapping_mul(0xbf58_476d_1ce4_e5b9);
+        z = (z ^ (z >> 27)).wrapping_mul(0x94d0_49bb_1331_11eb);
+        (z ^ (z >> 31)) % limit
+    }
+
+    fn year(&mut self) -> u64 {
+        1 + self.below(fast::ROUND_YEARS)
+    }
+
+    fn row(&mut self) -> [u64; 8] {
+        let (year, place) = self.month();
+        let mut row = [0; 8];
+        assert_eq!(fast::month_row(year, place, &mut row), 0);
+        row
+    }
+
+    fn month(&mut self) -> (u64, u64) {
+        let year = self.year();
+        let mut head = [0; 6];
+        assert_eq!(fast::year_head(year, &mut head), 0);
+        (year, self.below(head[2]))
+    }
+
+    fn date(&mut self) -> (u64, u64, u64) {
+        let (year, place) = self.month();
+        (year, place, 1 + self.below(29))
+    }
+
+    fn point(&mut self) -> (u64, u64, u64) {
+        let cut = [24, 60, 72][self.below(3) as usize];
+        (self.year(), cut, self.below(cut))
+    }
+
+    /// To a month of the round.
+    fn carry(&mut self) -> ([u64; 8], i64) {
+        let row = self.row();
+        let to = self.below(fast::ROUND_MONTHS);
+        (row, to as i64 - row[0] as i64)
+    }
+
+    /// Steps of up to a million months either way; a few lead outside.
+    fn walk(&mut self) -> ([u64; 8], Vec<i64>) {
+        let counts = (0..STEPS).map(|_| self.below(2_000_001) as i64 - 1_000_000);
+        let counts = counts.collect();
+        (self.row(), counts)
+    }
+}
+
+fn some<T>(count: usize, make: impl FnMut() -> T) -> Vec<T> {
+    std::iter::repeat_with(make).take(count).collect()
+}
+
+impl Inputs {
+    pub fn new() -> Self {
+        let mut random = Random { state: 1 };
+        Self {
+            months: some(COUNT, || random.month()),
+            dates: some(COUNT, || random.date()),
+            days: some(COUNT, || random.below(fast::ROUND_DAYS)),
+            carries: some(COUNT, || random.carry()),
+            walks: some(WALKS, || random.walk()),
+            years: some(COUNT, || random.year()),
+            points: some(COUNT, || random.point()),
+        }
+    }
+}

@@ -1,0 +1,152 @@
+//! Measures the library against plain Rust and prints a Markdown table.
+
+// The library's own functions, as the C boundary has them; the safe wrappers
+// would add a copy of each answer. The crate is named to have them linked.
+#[path = "../../bindings/src/raw.rs"]
+mod raw;
+use bindings as _;
+
+mod inputs;
+mod measure;
+mod survey;
+
+use bench::fast;
+use inputs::Inputs;
+use measure::{measure, Line};
+
+/// A walk's last row and its totals.
+type End = ([u64; 8], [u64; 3]);
+
+fn rows_and_dates(inputs: &Inputs) -> [Line; 4] {
+    [
+        measure(
+            "row of a month",
+            &inputs.months,
+            [0; 8],
+            |&(year, place), out| raw::xinghe_month_row(year, place, out),
+            |&(year, place), out| fast::month_row(year, place, out),
+        ),
+        measure(
+            "date to day",
+            &inputs.dates,
+            [0; 2],
+            |&(year, place, day), out| raw::xinghe_day_of_date(year, place, day, out),
+            |&(year, place, day), out| fast::day_of_date(year, place, day, out),
+        ),
+        measure(
+            "day to date",
+            &inputs.days,
+            [0; 3],
+            |&number, out| raw::xinghe_date_of_day(number, out),
+            |&number, out| fast::date_of_day(number, out),
+        ),
+        measure(
+            "carry",
+            &inputs.carries,
+            [0; 8],
+            |(row, count), out| raw::xinghe_carry(row, *count, out),
+            |(row, count), out| fast::carry(row, *count, out),
+        ),
+    ]
+}
+
+fn library_walk((row, counts): &([u64; 8], Vec<i64>), end: &mut End) -> u64 {
+    let (out, totals) = end;
+    // SAFETY: pointer and length are those of a slice.
+    unsafe { raw::xinghe_walk(row, counts.as_ptr(), counts.len(), out, totals) }
+}
+
+fn walks(inputs: &Inputs) -> [Line; 2] {
+    [
+        measure(
+            "walk of 1,000 counts",
+            &inputs.walks,
+            ([0; 8], [0; 3]),
+            library_walk,
+            |(row, counts), end| fast::walk(row, counts, &mut end.0, &mut end.1),
+        ),
+        measure(
+            "the same, in Rust too carried row by row",
+            &inputs.walks,
+            ([0; 8], [0; 3]),
+            library_walk,
+            |(row, counts), end| fast::walk_by_rows(row, counts, &mut end.0, &mut end.1),
+        ),
+    ]
+}
+
+fn years(inputs: &Inputs) -> [Line; 2] {
+    [
+        measure(
+            "a year's list",
+            &inputs.years,
+            [0; 13 * 8],
+            // SAFETY: pointer and length are those of an array.
+            |&year, out| unsafe { raw::xinghe_fill_year(year, out.as_mut_ptr(), out.len()) },
+            |&year, out| fast::fill_year(year, out),
+        ),
+        measure(
+            "point of a cut",
+            &inputs.points,
+            [0; 3],
+            |&(year, cut, index), out| raw::xinghe_cut_point(year, cut, index, out),
+            |&(year, cut, index), out| fast::cut_point(year, cut, index, out),
+        ),
+    ]
+}
+
+fn moons(inputs: &Inputs) -> [Line; 4] {
+    [
+        measure(
+            "phases",
+            &inputs.months,
+            [0; 12],
+            |&(year, place), out| raw::xinghe_phases(year, place, out),
+            |&(year, place), out| fast::phases(year, place, out),
+        ),
+        measure(
+            "eclipses",
+            &inputs.months,
+            [0; 15],
+            |&(year, place), out| raw::xinghe_nodes(year, place, out),
+            |&(year, place), out| fast::nodes(year, place, out),
+        ),
+        measure(
+            "corrections",
+            &inputs.months,
+            [0; 14],
+            |&(year, place), out| raw::xinghe_corrections(year, place, out),
+            |&(year, place), out| fast::corrections(year, place, out),
+        ),
+        measure(
+            "the same, in Rust too from the rates alone",
+            &inputs.months,
+            [0; 14],
+            |&(year, place), out| raw::xinghe_corrections(year, place, out),
+            |&(year, place), out| fast::corrections_from_rates(year, place, out),
+        ),
+    ]
+}
+
+fn main() {
+    let inputs = Inputs::new();
+    println!("| job | library, ns per call | Rust, ns per call | library / Rust |");
+    println!("|---|---|---|---|");
+    rows_and_dates(&inputs).iter().for_each(Line::print);
+    walks(&inputs).iter().for_each(Line::print);
+    years(&inputs).iter().for_each(Line::print);
+    moons(&inputs).iter().for_each(Line::print);
+    let survey = survey::measure();
+    survey.print();
+    println!();
+    println!(
+        "Both opt-level 3, same inputs, answers checked equal first. The two are timed by \
+         turns and the best of {} repetitions is taken, of {} for the survey. The library is \
+         called through its C boundary; the Rust functions take the same arguments and are \
+         never inlined either. The whole survey took {:.2} s and {:.2} s.",
+        measure::REPETITIONS,
+        survey::REPETITIONS,
+        survey.library * fast::ROUND_MONTHS as f64 / 1e9,
+        survey.rust * fast::ROUND_MONTHS as f64 / 1e9,
+    );
+}

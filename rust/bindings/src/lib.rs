@@ -1,0 +1,120 @@
+//! The Xinghe calendar, as `rt staticlib xinghe` makes it, for Rust.
+//!
+//! Every function takes any numbers whatever. `Err` holds the number under
+//! which the library refuses: 1 the year, 2 the place, 3 the day of the month,
+//! 4 a row that is not genuine, 5 a carry out of the round, 6 a list too
+//! short, 7 the day number, 8 the cut or its point. include/xinghe.h says what
+//! each value means; the arrays here are in its order.
+
+mod raw;
+
+/// What is answered, or the number of the refusal.
+pub type Answer<T> = Result<T, u64>;
+
+/// A month's row: month of the round, year, place, month number, leap mark,
+/// first day, small remainder, length.
+pub type Row = [u64; 8];
+
+/// Where a walk ends.
+#[derive(Clone, Copy, Debug, PartialEq, Eq)]
+pub struct Walk {
+    pub row: Row,
+    /// The sum of the answered counts.
+    pub sum: i64,
+    /// How many counts were answered.
+    pub answered: u64,
+}
+
+fn answer<const LENGTH: usize>(
+    call: impl FnOnce(&mut [u64; LENGTH]) -> u64,
+) -> Answer<[u64; LENGTH]> {
+    let mut values = [0; LENGTH];
+    match call(&mut values) {
+        0 => Ok(values),
+        number => Err(number),
+    }
+}
+
+/// Months before the year, leap remainder, month count, leap place, day of the
+/// winter solstice, its remainder.
+pub fn year_head(year: u64) -> Answer<[u64; 6]> {
+    answer(|out| raw::xinghe_year_head(year, out))
+}
+
+/// The row of the month at a place of a year; places are counted from 0.
+pub fn month_row(year: u64, place: u64) -> Answer<Row> {
+    answer(|out| raw::xinghe_month_row(year, place, out))
+}
+
+/// Day number and day of the sixty; days of a month are counted from 1.
+pub fn day_of_date(year: u64, place: u64, day: u64) -> Answer<[u64; 2]> {
+    answer(|out| raw::xinghe_day_of_date(year, place, day, out))
+}
+
+/// Year, place and day of the month of a day counted from the origin.
+pub fn date_of_day(number: u64) -> Answer<[u64; 3]> {
+    answer(|out| raw::xinghe_date_of_day(number, out))
+}
+
+/// The row so many months on, or back where the count is negative.
+pub fn carry(row: &Row, count: i64) -> Answer<Row> {
+    answer(|out| raw::xinghe_carry(row, count, out))
+}
+
+/// Day, remainder and quarters of each of the four phases of a month.
+pub fn phases(year: u64, place: u64) -> Answer<[u64; 12]> {
+    answer(|out| raw::xinghe_phases(year, place, out))
+}
+
+/// The moon's nodes and eclipses: seven numbers of the new moon, eight of the
+/// full moon.
+pub fn nodes(year: u64, place: u64) -> Answer<[u64; 15]> {
+    answer(|out| raw::xinghe_nodes(year, place, out))
+}
+
+/// The moon's corrections: six numbers of the new moon, eight of the full moon.
+pub fn corrections(year: u64, place: u64) -> Answer<[u64; 14]> {
+    answer(|out| raw::xinghe_corrections(year, place, out))
+}
+
+/// Day, remainder and rest of a point of the cut of a year in 24, 60 or 72.
+pub fn cut_point(year: u64, cut: u64, index: u64) -> Answer<[u64; 3]> {
+    answer(|out| raw::xinghe_cut_point(year, cut, index, out))
+}
+
+/// Writes the rows of a year, of eight numbers each, to the front of the list.
+/// The rest of it stays as it was; refused, all of it does.
+pub fn fill_year(year: u64, list: &mut [u64]) -> Answer<()> {
+    // SAFETY: a slice's pointer is not null and is aligned, also where the
+    // slice is empty, and points to as many numbers as the slice has.
+    match unsafe { raw::xinghe_fill_year(year, list.as_mut_ptr(), list.len()) } {
+        0 => Ok(()),
+        number => Err(number),
+    }
+}
+
+/// Carries a row by each of the counts in turn; those that would lead outside
+/// the round are passed over.
+pub fn walk(row: &Row, counts: &[i64]) -> Answer<Walk> {
+    let mut totals = [0; 3];
+    let last = answer(|out| {
+        // SAFETY: as in `fill_year`; the counts are only read.
+        unsafe { raw::xinghe_walk(row, counts.as_ptr(), counts.len(), out, &mut totals) }
+    })?;
+    let [below, size, answered] = totals;
+    Ok(Walk {
+        row: last,
+        sum: signed(below == 1, size),
+        answered,
+    })
+}
+
+/// No sum reaches past the round, so that its size is far within an `i64`.
+fn signed(below: bool, size: u64) -> i64 {
+    let size = i64::try_from(size).expect("a sum within the round");
+    if below {
+        -size
+    } else {
+        size
+    }
+}

@@ -1,0 +1,30 @@
+//! The functions of include/xinghe.h, declared as they stand there.
+//!
+//! An array of fixed length is a reference here, so that Rust itself sees to
+//! what the header leaves to the caller: it is not null, is aligned, has that
+//! length and overlaps no other argument. Only the two functions that take a
+//! pointer and a length beside it are unsafe.
+
+unsafe extern "C" {
+    pub safe fn xinghe_year_head(year: u64, out: &mut [u64; 6]) -> u64;
+    pub safe fn xinghe_month_row(year: u64, place: u64, out: &mut [u64; 8]) -> u64;
+    pub safe fn xinghe_day_of_date(year: u64, place: u64, day: u64, out: &mut [u64; 2]) -> u64;
+    pub safe fn xinghe_date_of_day(number: u64, out: &mut [u64; 3]) -> u64;
+    pub safe fn xinghe_carry(row: &[u64; 8], count: i64, out: &mut [u64; 8]) -> u64;
+    pub safe fn xinghe_phases(year: u64, place: u64, out: &mut [u64; 12]) -> u64;
+    pub safe fn xinghe_nodes(year: u64, place: u64, out: &mut [u64; 15]) -> u64;
+    pub safe fn xinghe_corrections(year: u64, place: u64, out: &mut [u64; 14]) -> u64;
+    pub safe fn xinghe_cut_point(year: u64, cut: u64, index: u64, out: &mut [u64; 3]) -> u64;
+
+    /// `counts` points to `length` numbers, and is neither null nor unaligned.
+    pub fn xinghe_walk(
+        row: &[u64; 8],
+        counts: *const i64,
+        length: usize,
+        out: &mut [u64; 8],
+        totals: &mut [u64; 3],
+    ) -> u64;
+
+    /// `out` points to `length` numbers, and is neither null nor unaligned.
+    pub fn xinghe_fill_year(year: u64, out: *mut u64, length: usize) -> u64;
+}

@@ -1,0 +1,54 @@
+//! The second program's answers in the order of include/xinghe.h.
+
+use second::ask::Refusal;
+use second::{fields, Month, Row};
+
+/// The round's last year, month and day.
+pub const LAST_YEAR: u64 = second::numbers::ROUND_YEARS;
+pub const LAST_MONTH: u64 = second::numbers::ROUND_MONTHS - 1;
+pub const LAST_DAY: u64 = second::numbers::LAST_DAY;
+
+pub fn number<T>(answer: Result<T, Refusal>) -> Result<T, u64> {
+    answer.map_err(|refusal| refusal as u64)
+}
+
+pub fn row(row: &Row) -> [u64; 8] {
+    [
+        row.lunation,
+        row.year,
+        row.place,
+        row.number,
+        u64::from(row.leap),
+        row.day,
+        row.remainder,
+        row.length,
+    ]
+}
+
+pub fn phases(month: &Month) -> [u64; 12] {
+    joined(fields::phases(month).as_flattened(), &[])
+}
+
+pub fn nodes(month: &Month) -> [u64; 15] {
+    joined(
+        &fields::new_moon_node(month),
+        &fields::full_moon_node(month),
+    )
+}
+
+/// The second program gives a correction as one signed number.
+pub fn corrections(month: &Month) -> [u64; 14] {
+    let [day, rest, by, to_day, to_rest] = fields::new_moon_correction(month, 0);
+    let new = [day, rest, i64::from(by < 0), by.abs(), to_day, to_rest];
+    let [day, rest, half, by, to_day, to_rest, to_half] = fields::full_moon_correction(month, 0);
+    let below = i64::from(by < 0);
+    let full = [day, rest, half, below, by.abs(), to_day, to_rest, to_half];
+    joined(&new.map(|n| n as u64), &full.map(|n| n as u64))
+}
+
+fn joined<const LENGTH: usize>(first: &[u64], second: &[u64]) -> [u64; LENGTH] {
+    let mut all = [0; LENGTH];
+    all[..first.len()].copy_from_slice(first);
+    all[first.len()..].copy_from_slice(second);
+    all
+}

@@ -1,0 +1,66 @@
+//! Whole years in lent lists of every length.
+
+use second::ask;
+
+use crate::expected::{self, LAST_YEAR};
+use crate::random::Random;
+use crate::tally::Tally;
+
+const SENTINEL: u64 = 0x5a5a_a5a5_5a5a_a5a5;
+/// The rows of the longest year and twenty numbers more.
+const LONGEST: usize = 8 * 13 + 20;
+
+#[test]
+fn years_in_lists_of_every_length() {
+    let mut random = Random::new(11);
+    let mut tally = Tally::new("year lists");
+    let edges = [1, 2, 3, 4, LAST_YEAR - 1, LAST_YEAR];
+    let drawn = (0..500).map(|_| 1 + random.below(LAST_YEAR));
+    for number in edges.into_iter().chain(drawn) {
+        let year = ask::year(number).expect("a year of the round");
+        let rows = year.months.iter().map(|month| expected::row(&month.row));
+        let rows: Vec<u64> = rows.flatten().collect();
+        for length in 0..=LONGEST {
+            compare_list(&mut tally, number, length, &rows);
+        }
+    }
+    tally.end(60_000);
+}
+
+/// Numbers stand before and behind the lent part too, to show that nothing is
+/// written outside it.
+fn compare_list(tally: &mut Tally, year: u64, length: usize, rows: &[u64]) {
+    let mut memory = [SENTINEL; 8 + LONGEST + 8];
+    let answered = bindings::fill_year(year, &mut memory[8..8 + length]);
+    let mut expected = [SENTINEL; 8 + LONGEST + 8];
+    if rows.len() <= length {
+        expected[8..8 + rows.len()].copy_from_slice(rows);
+        tally.same(answered, Ok(()));
+    } else {
+        tally.same(answered, Err(6));
+    }
+    assert_eq!(memory, expected, "year {year} in {length} numbers");
+}
+
+#[test]
+fn refused_years_leave_every_list() {
+    let mut tally = Tally::new("refused year lists");
+    for year in [0, LAST_YEAR + 1, 1 << 32, i64::MAX as u64, u64::MAX] {
+        for length in 0..=LONGEST {
+            let mut list = vec![SENTINEL; length];
+            tally.same(bindings::fill_year(year, &mut list), Err(1));
+            assert!(list.iter().all(|number| *number == SENTINEL));
+        }
+    }
+    tally.end(600);
+}
+
+/// An empty list of its own, whose pointer comes from no memory at all.
+#[test]
+fn empty_lists() {
+    assert_eq!(bindings::fill_year(1, &mut []), Err(6));
+    assert_eq!(bindings::fill_year(0, &mut []), Err(1));
+    let first = bindings::month_row(1, 0).expect("the first month");
+    let end = bindings::walk(&first, &[]).expect("a walk of no counts");
+    assert_eq!((end.row, end.sum, end.answered), (first, 0, 0));
+}

@@ -1,0 +1,18 @@
+//! The library is compared with the independent second program. What is
+//! expected are that program's walked answers; nothing here works out a row, a
+//! node or a correction.
+
+// The crate keeps its declarations to itself; `sentinels` needs them to see
+// what is written where a call is refused.
+#[path = "../../src/raw.rs"]
+mod raw;
+
+mod carries;
+mod expected;
+mod lists;
+mod random;
+mod round;
+mod sentinels;
+mod single;
+mod tally;
+mod walks;

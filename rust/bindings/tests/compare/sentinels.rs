@@ -1,0 +1,126 @@
+//! What is written to arrays that hold other numbers before: the values where
+//! a call is answered, zeros where it is refused.
+
+use bindings::Answer;
+
+use crate::expected::{LAST_DAY, LAST_YEAR};
+use crate::random::Random;
+use crate::raw;
+use crate::tally::Tally;
+
+const SENTINEL: u64 = 0x1234_5678_9abc_def1;
+
+/// The safe function starts from zeros, this call from other numbers; both
+/// must come to the same, and to zeros where the answer is a refusal.
+#[track_caller]
+fn compare<const LENGTH: usize>(
+    tally: &mut Tally,
+    safe: Answer<[u64; LENGTH]>,
+    call: impl FnOnce(&mut [u64; LENGTH]) -> u64,
+) {
+    let mut out = [SENTINEL; LENGTH];
+    let number = call(&mut out);
+    let expected = match safe {
+        Ok(values) => (0, values),
+        Err(number) => (number, [0; LENGTH]),
+    };
+    tally.same((number, out), expected);
+}
+
+fn months(tally: &mut Tally, year: u64, place: u64) {
+    compare(tally, bindings::month_row(year, place), |out| {
+        raw::xinghe_month_row(year, place, out)
+    });
+    compare(tally, bindings::phases(year, place), |out| {
+        raw::xinghe_phases(year, place, out)
+    });
+    compare(tally, bindings::nodes(year, place), |out| {
+        raw::xinghe_nodes(year, place, out)
+    });
+    compare(tally, bindings::corrections(year, place), |out| {
+        raw::xinghe_corrections(year, place, out)
+    });
+}
+
+fn days_and_cuts(tally: &mut Tally, year: u64, place: u64, other: u64) {
+    compare(tally, bindings::year_head(year), |out| {
+        raw::xinghe_year_head(year, out)
+    });
+    compare(tally, bindings::day_of_date(year, place, other), |out| {
+        raw::xinghe_day_of_date(year, place, other, out)
+    });
+    for cut in [12, 24, 60, 72] {
+        compare(tally, bindings::cut_point(year, cut, other), |out| {
+            raw::xinghe_cut_point(year, cut, other, out)
+        });
+    }
+}
+
+#[test]
+fn answers_and_refusals() {
+    let mut random = Random::new(12);
+    let mut tally = Tally::new("sentinels");
+    let others = [0, 1, 29, 30, 31, 59, 60, 72, u64::MAX];
+    for _ in 0..50_000 {
+        let year = match random.below(4) {
+            0 => random.pick(&[0, LAST_YEAR + 1, u64::MAX]),
+            _ => 1 + random.below(LAST_YEAR),
+        };
+        let place = random.below(15);
+        months(&mut tally, year, place);
+        days_and_cuts(&mut tally, year, place, random.pick(&others));
+        let number = random.below(LAST_DAY + LAST_DAY / 4);
+        compare(&mut tally, bindings::date_of_day(number), |out| {
+            raw::xinghe_date_of_day(number, out)
+        });
+    }
+    tally.end(500_000);
+}
+
+/// Rows at random, one in four of them forged.
+#[test]
+fn carries_and_walks() {
+    let mut random = Random::new(13);
+    let mut tally = Tally::new("sentinels of carries and walks");
+    for _ in 0..50_000 {
+        let year = 1 + random.below(LAST_YEAR);
+        let mut row = bindings::month_row(year, random.below(12)).expect("a month");
+        if random.below(4) == 0 {
+            row[random.below(8) as usize] ^= 1 << random.below(64);
+        }
+        let count = random.count();
+        compare(&mut tally, bindings::carry(&row, count), |out| {
+            raw::xinghe_carry(&row, count, out)
+        });
+        compare_walk(&mut tally, &row, &[count, random.count()]);
+    }
+    tally.end(100_000);
+}
+
+fn compare_walk(tally: &mut Tally, row: &[u64; 8], counts: &[i64]) {
+    let (mut out, mut totals) = ([SENTINEL; 8], [SENTINEL; 3]);
+    // SAFETY: pointer and length are those of a slice.
+    let number =
+        unsafe { raw::xinghe_walk(row, counts.as_ptr(), counts.len(), &mut out, &mut totals) };
+    let expected = match bindings::walk(row, counts) {
+        Ok(end) => {
+            let below = u64::from(end.sum < 0);
+            let totals = [below, end.sum.unsigned_abs(), end.answered];
+            (0, end.row, totals)
+        }
+        Err(number) => (number, [0; 8], [0; 3]),
+    };
+    tally.same((number, out, totals), expected);
+}
+
+/// A list that is too short, or the list of a year that is none, stays.
+#[test]
+fn refused_lists() {
+    let mut list = [SENTINEL; 104];
+    for (year, length, number) in [(0, 104, 1), (LAST_YEAR, 103, 6), (1, 95, 6), (1, 0, 6)] {
+        // SAFETY: the list is as long as the length, or longer.
+        let answered = unsafe { raw::xinghe_fill_year(year, list.as_mut_ptr(), length) };
+        assert_eq!(answered, number);
+        assert_eq!(list, [SENTINEL; 104]);
+    }
+}

@@ -1,0 +1,91 @@
+//! Walks, against the paper's walk done on the month alone.
+
+use bindings::Walk;
+use second::{Checkpoints, Row};
+
+use crate::carries::some_rows;
+use crate::expected::{self, LAST_MONTH};
+use crate::random::Random;
+use crate::tally::Tally;
+
+/// The paper's walk: the month moves where the sum is a month of the round,
+/// in numbers wide enough for any sum; the row is the second program's.
+fn walked(start: &Row, counts: &[i64]) -> Walk {
+    let (mut month, mut sum, mut answered) = (i128::from(start.lunation), 0, 0);
+    for count in counts {
+        let next = month + i128::from(*count);
+        if (0..=i128::from(LAST_MONTH)).contains(&next) {
+            month = next;
+            sum += i128::from(*count);
+            answered += 1;
+        }
+    }
+    let last = Checkpoints::shared().month(month as u64);
+    Walk {
+        row: expected::row(&last.expect("a month of the round").row),
+        sum: i64::try_from(sum).expect("a sum within the round"),
+        answered,
+    }
+}
+
+#[test]
+fn random_lists() {
+    let mut random = Random::new(8);
+    let mut tally = Tally::new("walks");
+    let rows = some_rows(&mut random, 200);
+    for _ in 0..6_000 {
+        let row = random.pick(&rows);
+        let length = if random.below(50) == 0 { 2_000 } else { 40 };
+        let length = random.below(length);
+        let counts: Vec<_> = (0..length).map(|_| random.count()).collect();
+        let answered = bindings::walk(&expected::row(&row), &counts);
+        tally.same(answered, Ok(walked(&row, &counts)));
+    }
+    tally.end(6_000);
+}
+
+/// Lists that are empty, refused throughout, or go to and fro.
+#[test]
+fn edge_lists() {
+    let mut random = Random::new(9);
+    let mut tally = Tally::new("walks at the edges");
+    let length = LAST_MONTH as i64;
+    let lists: [&[i64]; 7] = [
+        &[],
+        &[0],
+        &[i64::MIN, i64::MAX, i64::MIN, i64::MAX],
+        &[length, -length, length + 1, -length - 1],
+        &[-length, length, 1, -1],
+        &[i64::MAX, 1, i64::MIN, -1, 0, 1, 1, -2],
+        &[1; 100],
+    ];
+    for row in some_rows(&mut random, 40) {
+        for counts in lists {
+            let answered = bindings::walk(&expected::row(&row), counts);
+            tally.same(answered, Ok(walked(&row, counts)));
+        }
+    }
+    tally.end(300);
+}
+
+/// A walk is the carries one after another.
+#[test]
+fn walk_and_carries() {
+    let mut random = Random::new(10);
+    let mut tally = Tally::new("walks and carries");
+    let rows = some_rows(&mut random, 200);
+    for _ in 0..10_000 {
+        let start = expected::row(&random.pick(&rows));
+        let counts: [i64; 20] = std::array::from_fn(|_| random.count());
+        let mut row = start;
+        for count in counts {
+            match bindings::carry(&row, count) {
+                Ok(next) => row = next,
+                refused => tally.same(refused, Err(5)),
+            }
+        }
+        let end = bindings::walk(&start, &counts);
+        tally.same(end.map(|end| end.row), Ok(row));
+    }
+    tally.end(10_000);
+}
