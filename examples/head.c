@@ -1,5 +1,5 @@
 /* Prints the head of a year. From the project's directory:
- * cc -Iinclude examples/head.c target/staticlib/libxinghe.a -o head && ./head 293997 */
+ * cc -Iinclude examples/head.c target/staticlib/libxinghe.a -o target/head && target/head 293997 */
 #include <inttypes.h>
 #include <stdio.h>
 #include <stdlib.h>
