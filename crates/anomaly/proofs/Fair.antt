@@ -52,34 +52,34 @@ unfolding amountOf sumOf
 all-fair = tt
 
 -- the anomaly's day and rest at an instant in halves
-abbrev dayAt : ℕ → ℕ
-dayAt h = h % (2 * T) / (2 * N) + 1
+abbrev anomalyDay : ℕ → ℕ
+anomalyDay h = h % (2 * T) / (2 * N) + 1
 
-abbrev restAt : ℕ → ℕ
-restAt h = h % (2 * T) % (2 * N)
+abbrev anomalyRest : ℕ → ℕ
+anomalyRest h = h % (2 * T) % (2 * N)
 
-rest-longest : (h : ℕ) → restAt h ≤ longest (dayAt h)
+rest-longest : (h : ℕ) → anomalyRest h ≤ longest (anomalyDay h)
 rest-longest h = omega arith
 
-fair-at : (h : ℕ) → D.T (fair printed (dayAt h))
-fair-at h = all-at (fair printed) 29 all-fair (dayAt h) (omega arith)
+fair-at : (h : ℕ) → D.T (fair printed (anomalyDay h))
+fair-at h = all-at (fair printed) 29 all-fair (anomalyDay h) (omega arith)
 
 -- LOWERING NEVER EXCEEDS THE AMOUNT
-pub day-at : (h : ℕ) → Day printed (dayAt h) (restAt h)
+pub day-at : (h : ℕ) → Day printed (anomalyDay h) (anomalyRest h)
 day-at h =
     record {
       rates-small = tt;
       from = omega arith;
       upto = omega arith;
       rest-bound = omega arith;
-      lowers = may-lower (raises (dayAt h)) (amountOf printed (dayAt h) .size) (sizedOf (getD printed (dayAt h - 1) (pos 0)) .size) (longest (dayAt h)) (limit (amountOf printed (dayAt h) .minus)) (restAt h) (fair-at h) (rest-longest h);
+      lowers = may-lower (raises (anomalyDay h)) (amountOf printed (anomalyDay h) .size) (sizedOf (getD printed (anomalyDay h - 1) (pos 0)) .size) (longest (anomalyDay h)) (limit (amountOf printed (anomalyDay h) .minus)) (anomalyRest h) (fair-at h) (rest-longest h);
     }
 
 -- THE CORRECTION STAYS BETWEEN −83,462 AND 96,507, at every instant
 pub correction-within : (h : ℕ) → correctionAt printed h .size ≤ limit (correctionAt printed h .minus)
 unfolding correctionAt correctionOn
 correction-within h =
-    within (raises (dayAt h)) (amountOf printed (dayAt h) .size) (sizedOf (getD printed (dayAt h - 1) (pos 0)) .size) (longest (dayAt h)) (limit (amountOf printed (dayAt h) .minus)) (restAt h) (fair-at h) (rest-longest h)
+    within (raises (anomalyDay h)) (amountOf printed (anomalyDay h) .size) (sizedOf (getD printed (anomalyDay h - 1) (pos 0)) .size) (longest (anomalyDay h)) (limit (amountOf printed (anomalyDay h) .minus)) (anomalyRest h) (fair-at h) (rest-longest h)
 
 limit-most : (b : Bool) → limit b ≤ 96507
 limit-most true = omega arith

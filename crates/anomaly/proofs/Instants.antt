@@ -47,7 +47,7 @@ pub record Moves (h : ℕ) (x : Corrected) (k : Amount) : Type 0 where
   pub range : (x .remainder .parts < N) × (x .half < 2)
 
 moved-parts : (minus : Bool) (d r c : ℕ) → r < N → c ≤ N → c ≤ d * N + r →
-    (let x = pick minus (later d r c) (earlier d r c) in (x .days * N + x .remainder .parts ≡ pick minus (d * N + r + c) (d * N + r - c)) × (x .remainder .parts < N))
+    (let x = pick minus (later d r c) (earlier d r c) in (x .whole * N + x .remainder .parts ≡ pick minus (d * N + r + c) (d * N + r - c)) × (x .remainder .parts < N))
 moved-parts true d r c h i o = rw (later-is d r c h i) (omega arith)
 moved-parts false d r c h i o = rw (earlier-is d r c h i) (omega arith)
 

@@ -10,7 +10,7 @@ use Rattle.units.specs.Xinghe.{N}
 use Rattle.anomaly.specs.Corrections.{later, earlier}
 
 module _ (d r c : ℕ) (in-range : r < N) (less : c ≤ N) where
-  pub later-is : later d r c ≡ record { days = d + (r + c) / N; remainder = record { parts = (r + c) % N } }
+  pub later-is : later d r c ≡ record { whole = d + (r + c) / N; remainder = record { parts = (r + c) % N } }
   later-is =
       ⊎-elim
       (λ (h : N ≤ r + c).
@@ -23,7 +23,7 @@ module _ (d r c : ℕ) (in-range : r < N) (less : c ≤ N) where
       rw (lt-ltb (r + c) N h, e, f))
       (le-or-lt N (r + c))
 
-  pub earlier-is : earlier d r c ≡ record { days = d + (r + (N - c)) / N - 1; remainder = record { parts = (r + (N - c)) % N } }
+  pub earlier-is : earlier d r c ≡ record { whole = d + (r + (N - c)) / N - 1; remainder = record { parts = (r + (N - c)) % N } }
   earlier-is =
       ⊎-elim
       (λ (h : c ≤ r).

@@ -28,7 +28,7 @@ correctionAt rates h = correctionOn rates (h % (2 * T) / (2 * N) + 1) (h % (2 * 
 
 -- a day and remainder, so many parts later or earlier: the day moves by one where the remainder leaves its range
 abbrev at : ℕ → ℕ → DayCarry
-at day parts = record { days = day; remainder = record { parts = parts } }
+at day parts = record { whole = day; remainder = record { parts = parts } }
 
 abbrev pub later : ℕ → ℕ → ℕ → DayCarry
 later day r c = pick (ltb (r + c) N) (at day (r + c)) (at (day + 1) (r + c - N))
@@ -41,7 +41,7 @@ unfoldable pub moved : ℕ → DayRemainder → Amount → DayCarry
 moved day r k = pick (k .minus) (later day (r .parts) (k .size)) (earlier day (r .parts) (k .size))
 
 -- a remainder over N, and a correction of less than a day that doesn't lead to before the origin
-pub record Within (day : ℕ) (r : DayRemainder) (k : Amount) : Type 0 where
+pub record CorrectionBound (day : ℕ) (r : DayRemainder) (k : Amount) : Type 0 where
   pub day-bound : day < 4294967296
   pub remainder : r .parts < N
   pub size : k .size ≤ N
@@ -56,7 +56,7 @@ correctedAt h =
     record {
       anomaly = anomalyAt h;
       correction = signedOf (correctionAt printed h);
-      day = movedAt h .days;
+      day = movedAt h .whole;
       remainder = movedAt h .remainder;
       half = h % 2;
     }

@@ -4,7 +4,6 @@ use walking::Sign;
 ghost use mathlib.Core.Path.{_≡_};
 ghost use Prim.Native.Nat.{_+_, _-_, _≤_, _<_};
 ghost use lib.Dec.{T};
-ghost use lib.IntN.{natAbs};
 ghost use Rattle.anomaly.specs.Rates.{small, sumOf};
 ghost use Rattle.anomaly.specs.Amounts.{sizedOf, amountOf, raises, changed, Lowers, Day, correctionOn, signedOf};
 
@@ -28,11 +27,11 @@ fn sum_of(rates: [i64; 28], k: usize) -> i64
     sum
 }
 
-fn sized_of(sum: i64) -> Amount
-    requires { ⌜ natAbs sum < 4294967296 ⌝ }
-    ensures { λ r. ⌜ r ≡ sizedOf sum ⌝ }
+// A signed number by its sign and its size.
+pub fn sized_of(count: i64) -> Amount
+    ensures { λ r. ⌜ r ≡ sizedOf count ⌝ }
 {
-    match walking::sign_of(sum) {
+    match walking::sign_of(count) {
         Sign::Up(n) => Amount {
             minus: false,
             size: n,

@@ -8,7 +8,7 @@ ghost use Prim.Native.Nat.{_+_, _*_, _≤_, _<_};
 ghost use Rattle.units.specs.Xinghe.{P, roundMonths};
 ghost use Rattle.anomaly.specs.Rates.{printed};
 ghost use Rattle.anomaly.specs.Amounts.{signedOf};
-ghost use Rattle.anomaly.specs.Corrections.{Within, anomalyAt, correctionAt, moved, correctedAt, correctionsOf};
+ghost use Rattle.anomaly.specs.Corrections.{CorrectionBound, anomalyAt, correctionAt, moved, correctedAt, correctionsOf};
 use crate::amounts::Amount;
 
 pub mod amounts;
@@ -75,7 +75,7 @@ fn anomaly_at(instant: u64) -> Anomaly
     let carried = DayRemainder { parts: 0 }.carry(into / 2);
     let rest = carried.remainder;
     Anomaly {
-        day: carried.days + 1,
+        day: carried.whole + 1,
         rest,
         half: into % 2,
     }
@@ -93,7 +93,7 @@ fn correction_at(instant: u64) -> Amount
 
 // A day and its remainder, moved by a correction: a positive one is taken from the remainder, a negative one added.
 fn moved_by(day: u64, remainder: DayRemainder, correction: Amount) -> DayCarry
-    requires { ⌜ Within day remainder correction ⌝ }
+    requires { ⌜ CorrectionBound day remainder correction ⌝ }
     ensures { λ r. ⌜ r ≡ moved day remainder correction ⌝ }
 {
     let minus = correction.minus;
@@ -102,7 +102,7 @@ fn moved_by(day: u64, remainder: DayRemainder, correction: Amount) -> DayCarry
         let carried = remainder.carry(size);
         let later = carried.remainder;
         return DayCarry {
-            days: day + carried.days,
+            whole: day + carried.whole,
             remainder: later,
         };
     }
@@ -110,7 +110,7 @@ fn moved_by(day: u64, remainder: DayRemainder, correction: Amount) -> DayCarry
     let carried = remainder.carry(Xinghe::N - size);
     let earlier = carried.remainder;
     DayCarry {
-        days: day + carried.days - 1,
+        whole: day + carried.whole - 1,
         remainder: earlier,
     }
 }
@@ -125,13 +125,13 @@ fn corrected_at(halves: u64) -> Corrected
     let correction = correction_at(instant);
     let mean = DayRemainder { parts: 0 }.carry(instant / 2);
     let over = mean.remainder;
-    let moved = moved_by(mean.days, over, correction);
+    let moved = moved_by(mean.whole, over, correction);
     let remainder = moved.remainder;
     let signed = amounts::signed_of(correction);
     Corrected {
         anomaly,
         correction: signed,
-        day: moved.days,
+        day: moved.whole,
         remainder,
         half: instant % 2,
     }

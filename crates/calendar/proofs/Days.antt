@@ -15,7 +15,7 @@ use Rattle.refusal.specs.declared.Refusal.{Refusal}
 use Rattle.units.specs.Xinghe.{means, roundMonths, roundDays}
 use Rattle.moon.specs.NewMoons.{newMoonOf}
 use Rattle.calendar.specs.Rows.{rowOf, monthRow}
-use Rattle.calendar.specs.Dates.{dayOf, dayIn, dayAt, dayOfDate, dateIn, dateOfDay}
+use Rattle.calendar.specs.Dates.{dayOf, dayIn, dayFor, dayOfDate, dateIn, dateOfDay}
 use Rattle.calendar.specs.Answers.{dayValues}
 use Rattle.calendar.specs.declared.MonthRow.{MonthRow}
 use Rattle.calendar.specs.declared.RowAnswer.{RowAnswer}
@@ -65,7 +65,7 @@ date-within d m w = rw (lt-ltb d roundDays (in-the-round d m w), in-no-other d m
 
 -- DAY NUMBER TO DATE AND BACK: every day of the round has a date, whose day it is
 pub day-date-day : (d : ℕ) → d < roundDays → (x : Date) × (dateOfDay d ≡ DateAnswer.Answered x) × (dayOfDate (x .year) (x .place) (x .day) ≡ DayAnswer.Answered (dayOf d))
-unfolding dayAt dayIn
+unfolding dayFor dayIn
 day-date-day d h =
     let m : ℕ = monthOf (newMoon means) d in
     let w = in-a-month d h in
@@ -78,10 +78,10 @@ day-date-day d h =
 
 -- DATE TO DAY NUMBER AND BACK: every date that has a day is that day's date
 pub date-day-date : (n p i d : ℕ) → dayOfDate n p i ≡ DayAnswer.Answered (dayOf d) → dateOfDay d ≡ DateAnswer.Answered (record { year = n; place = p; day = i })
-unfolding dayAt dayIn
+unfolding dayFor dayIn
 date-day-date n p i d e = go (monthRow n p) refl e
   where
-    go : (a : RowAnswer) → monthRow n p ≡ a → dayAt a i ≡ DayAnswer.Answered (dayOf d) → dateOfDay d ≡ DateAnswer.Answered (record { year = n; place = p; day = i })
+    go : (a : RowAnswer) → monthRow n p ≡ a → dayFor a i ≡ DayAnswer.Answered (dayOf d) → dateOfDay d ≡ DateAnswer.Answered (record { year = n; place = p; day = i })
     go (RowAnswer.Answered row) q e =
         let t : ℕ = suc (row .length) in
         let r = chosen (between 1 i t) (DayAnswer.Answered (dayOf (row .day + (i - 1)))) (DayAnswer.Refused Refusal.DayOfMonth) (DayAnswer.Answered (dayOf d)) (sym e)

@@ -1,6 +1,6 @@
 -- The leap months of the Xinghe (01, "Years and months"): from the middle terms, and what follows for the leap remainder.
 -- Assumes nothing.
-use mathlib.Core.Path.{_≡_, refl}
+use mathlib.Core.Path.{_≡_, refl, sym, _∙_}
 use mathlib.Core.Logic.{_⊎_, ⊎-elim, _↔_}
 use mathlib.Core.Bool.{Bool}
 use Prim.Native.Nat.{ℕ, suc, _+_, _-_, _*_, _/_, _%_, _≤_, _<_}
@@ -15,6 +15,18 @@ use Rattle.reckoning.proofs.Chapters.{common-year, long-year, leap-place}
 use Rattle.lunisolar.specs.Calendars.{leapRemainder}
 use Rattle.units.specs.Xinghe.{xinghe, means, rule, chapterMonths, chapterYears, chapterLeaps}
 use Rattle.units.proofs.Sound.{sound, laws}
+use Rattle.calendar.specs.Heads.{headOf, yearHead}
+use Rattle.calendar.specs.declared.YearHead.{YearHead}
+use Rattle.calendar.specs.declared.HeadAnswer.{HeadAnswer}
+use Rattle.calendar.proofs.Round.{head-found}
+
+-- A YEAR BEGINS WITH THE MONTH THAT HOLDS ITS SOLSTICE, which is its first middle term, and with no other
+pub solstice-month : (n : ℕ) (head : YearHead) → HeadAnswer.Answered head ≡ yearHead n → (m : ℕ) → T (rule .holds m (12 * (n - 1))) ↔ (m ≡ head .before)
+unfolding headOf
+solstice-month n head e m =
+    let y : ℕ = n - 1 in
+    let b : head .before ≡ rule .before y = rw (head-found n head e .is-head) in
+    (λ t. laws .only m (12 * y) t ∙ sym (laws .opens y) ∙ sym b, λ q. rw (q, b, laws .opens y) (laws .held (12 * y)))
 
 -- each month holds at most one middle term
 pub one-middle-term : (m i j : ℕ) → T (rule .holds m i) → T (rule .holds m j) → i ≡ j

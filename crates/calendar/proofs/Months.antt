@@ -11,14 +11,14 @@ use Rattle.units.proofs.Sound.{laws}
 use Rattle.moon.specs.NewMoons.{newMoonOf, monthlyAddition}
 use Rattle.moon.specs.declared.NewMoon.{NewMoon}
 use Rattle.moon.proofs.Addition.{next-new-moon}
-use Rattle.calendar.specs.Rows.{rowOf, rowAt, monthRow}
+use Rattle.calendar.specs.Rows.{rowOf, rowFor, monthRow}
 use Rattle.calendar.specs.declared.MonthRow.{MonthRow}
 use Rattle.calendar.specs.declared.RowAnswer.{RowAnswer}
 use Rattle.calendar.proofs.Round.{year-in-round, in-round, stands-year, stands-place, row-found}
 
 -- a month's row is the row at its year and place
 pub month-to-place : (m : ℕ) → m < roundMonths → monthRow (rowOf m .year) (rowOf m .place) ≡ RowAnswer.Answered (rowOf m)
-unfolding rowOf rowAt
+unfolding rowOf rowFor
 month-to-place m h =
     rw (lunation-at xinghe (yearOf rule m) (placeOf rule m) (year-in-round m h) (place-in rule laws m), month-back rule laws m)
 

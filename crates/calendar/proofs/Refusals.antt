@@ -10,13 +10,13 @@ use Rattle.reckoning.specs.Means.{newMoon}
 use Rattle.reckoning.specs.Dates.{monthOf}
 use Rattle.reckoning.proofs.Searches.{through}
 use Rattle.refusal.specs.declared.Refusal.{Refusal}
-use Rattle.lunisolar.specs.Calendars.{yearAt, lunationIn, lunationAt}
+use Rattle.lunisolar.specs.Calendars.{yearAt, lunationFor, lunationAt}
 use Rattle.lunisolar.specs.declared.YearAnswer.{YearAnswer}
 use Rattle.lunisolar.specs.declared.LunationAnswer.{LunationAnswer}
 use Rattle.units.specs.Xinghe.{xinghe, means, rule, roundYears, roundDays}
-use Rattle.calendar.specs.Heads.{headAt, yearHead}
-use Rattle.calendar.specs.Rows.{rowOf, rowAt, monthRow}
-use Rattle.calendar.specs.Dates.{dayOf, dayIn, dayAt, dayOfDate, dateIn, dateOfDay}
+use Rattle.calendar.specs.Heads.{headFor, yearHead}
+use Rattle.calendar.specs.Rows.{rowOf, rowFor, monthRow}
+use Rattle.calendar.specs.Dates.{dayOf, dayIn, dayFor, dayOfDate, dateIn, dateOfDay}
 use Rattle.calendar.specs.Answers.{headNumber, headValues, zeroHead, rowNumber, rowValues, zeroRow, dayNumber, dayValues, zeroDay, dateNumber, dateValues, zeroDate}
 use Rattle.calendar.specs.declared.HeadAnswer.{HeadAnswer}
 use Rattle.calendar.specs.declared.RowAnswer.{RowAnswer}
@@ -38,24 +38,24 @@ isDay n p i = between 1 i (suc (rowOf (rule .before (n - 1) + p) .length))
 module _ {B : Type 0} (f : LunationAnswer → B) where
   pub of-place : (n p : ℕ) → f (lunationAt xinghe n p) ≡
       pick (isYear n) (pick (isPlace n p) (f (LunationAnswer.Lunation (rule .before (n - 1) + p))) (f (LunationAnswer.Refused Refusal.Place))) (f (LunationAnswer.Refused Refusal.Year))
-  unfolding yearAt lunationIn
+  unfolding yearAt lunationFor
   of-place n p =
-      through (λ a. f (lunationIn xinghe a p)) (isYear n) (YearAnswer.Past (n - 1)) (YearAnswer.Refused Refusal.Year)
+      through (λ a. f (lunationFor xinghe a p)) (isYear n) (YearAnswer.Past (n - 1)) (YearAnswer.Refused Refusal.Year)
       ∙ ap (λ (x : B). pick (isYear n) x (f (LunationAnswer.Refused Refusal.Year)))
       (through f (isPlace n p) (LunationAnswer.Lunation (rule .before (n - 1) + p)) (LunationAnswer.Refused Refusal.Place))
 
 pub head-numbers : (n : ℕ) → headNumber (yearHead n) ≡ pick (isYear n) 0 1
-unfolding yearAt headAt
-head-numbers n = through (λ a. headNumber (headAt a)) (isYear n) (YearAnswer.Past (n - 1)) (YearAnswer.Refused Refusal.Year)
+unfolding yearAt headFor
+head-numbers n = through (λ a. headNumber (headFor a)) (isYear n) (YearAnswer.Past (n - 1)) (YearAnswer.Refused Refusal.Year)
 
 pub row-numbers : (n p : ℕ) → rowNumber (monthRow n p) ≡ pick (isYear n) (pick (isPlace n p) 0 2) 1
-unfolding rowAt
-row-numbers n p = of-place (λ a. rowNumber (rowAt a)) n p
+unfolding rowFor
+row-numbers n p = of-place (λ a. rowNumber (rowFor a)) n p
 
 pub day-numbers : (n p i : ℕ) → dayNumber (dayOfDate n p i) ≡ pick (isYear n) (pick (isPlace n p) (pick (isDay n p i) 0 3) 2) 1
-unfolding rowAt dayAt dayIn
+unfolding rowFor dayFor dayIn
 day-numbers n p i =
-    of-place (λ a. dayNumber (dayAt (rowAt a) i)) n p
+    of-place (λ a. dayNumber (dayFor (rowFor a) i)) n p
     ∙ ap (λ (x : ℕ). pick (isYear n) (pick (isPlace n p) x 2) 1)
     (through dayNumber (isDay n p i) (DayAnswer.Answered (dayOf (rowOf (rule .before (n - 1) + p) .day + (i - 1)))) (DayAnswer.Refused Refusal.DayOfMonth))
 

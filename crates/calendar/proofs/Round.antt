@@ -19,17 +19,17 @@ use Rattle.reckoning.proofs.Rows.{year-under, month-back, place-in, year-of, pl
 use Rattle.reckoning.proofs.Days.{month-under}
 use Rattle.reckoning.proofs.Moons.{moons-climb, long-month, short-month}
 use Rattle.reckoning.proofs.Chapters.{year-of-month}
-use Rattle.lunisolar.proofs.Laws.{before-is, count-bound, lunation-found}
+use Rattle.lunisolar.proofs.Laws.{before-is, count-bound, year-found, lunation-found, lunation-at}
 use Rattle.lunisolar.specs.Calendars.{yearAt, lunationAt}
 use Rattle.lunisolar.specs.declared.YearAnswer.{YearAnswer}
 use Rattle.lunisolar.specs.declared.LunationAnswer.{LunationAnswer}
 use Rattle.units.specs.Xinghe.{xinghe, means, rule, chapterMonths, chapterYears, roundYears, roundMonths, roundDays, longFrom}
 use Rattle.units.proofs.Sound.{sound, laws}
 use Rattle.moon.specs.NewMoons.{newMoonOf, lengthOf}
-use Rattle.calendar.specs.Heads.{headOf, headAt, yearHead}
+use Rattle.calendar.specs.Heads.{headOf, headFor, yearHead}
 use Rattle.calendar.specs.declared.YearHead.{YearHead}
 use Rattle.calendar.specs.declared.HeadAnswer.{HeadAnswer}
-use Rattle.calendar.specs.Rows.{Stands, rowOf, rowAt, monthRow}
+use Rattle.calendar.specs.Rows.{Stands, rowOf, rowFor, monthRow}
 use Rattle.calendar.specs.declared.MonthRow.{MonthRow}
 use Rattle.calendar.specs.declared.RowAnswer.{RowAnswer}
 
@@ -112,9 +112,9 @@ unfolding newMoonOf lengthOf
 length-is m =
     let r : ℕ = newMoonRest means m in
     ⊎-elim
-    (λ (h : 97883 ≤ r). rw (le-leb 97883 r h) (sym (long-month means (sound .moon) m (omega arith))))
-    (λ (h : r < 97883). rw (lt-leb 97883 r h) (sym (short-month means (sound .moon) m (omega arith))))
-    (le-or-lt 97883 r)
+    (λ (h : longFrom ≤ r). rw (le-leb longFrom r h) (sym (long-month means (sound .moon) m (omega arith))))
+    (λ (h : r < longFrom). rw (lt-leb longFrom r h) (sym (short-month means (sound .moon) m (omega arith))))
+    (le-or-lt longFrom r)
 
 -- a row that is answered is that of the month that stands there
 pub record RowFound (n p : ℕ) (row : MonthRow) : Type 0 where
@@ -124,10 +124,10 @@ pub record RowFound (n p : ℕ) (row : MonthRow) : Type 0 where
   pub is-row : row ≡ rowOf month
 
 pub row-found : (n p : ℕ) (row : MonthRow) → RowAnswer.Answered row ≡ monthRow n p → RowFound n p row
-unfolding rowAt
+unfolding rowFor
 row-found n p row e = go (lunationAt xinghe n p) refl e
   where
-    go : (a : LunationAnswer) → a ≡ lunationAt xinghe n p → RowAnswer.Answered row ≡ rowAt a → RowFound n p row
+    go : (a : LunationAnswer) → a ≡ lunationAt xinghe n p → RowAnswer.Answered row ≡ rowFor a → RowFound n p row
     go (LunationAnswer.Lunation m) q e =
         let f = found n p m q in
         record { month = m; written = f .0; stands = f .1; is-row = cc }
@@ -142,11 +142,44 @@ row-bounds m h = (omega arith, pick-bound (leb longFrom (newMoonRest means m)))
     pick-bound true = omega arith
     pick-bound false = omega arith
 
--- a head that is answered has at most thirteen months
-pub head-months : (n : ℕ) (head : YearHead) → HeadAnswer.Answered head ≡ yearHead n → head .months ≤ 13
-unfolding headAt headOf
-head-months n head e = go (yearAt xinghe n) e
+-- a head that is answered is its year's
+pub record HeadFound (n : ℕ) (head : YearHead) : Type 0 where
+  pub written : 1 ≤ n
+  pub upto : n - 1 < roundYears
+  pub is-head : head ≡ headOf (n - 1)
+
+pub head-found : (n : ℕ) (head : YearHead) → HeadAnswer.Answered head ≡ yearHead n → HeadFound n head
+unfolding headFor
+head-found n head e = go (yearAt xinghe n) refl e
   where
-    go : (a : YearAnswer) → HeadAnswer.Answered head ≡ headAt a → head .months ≤ 13
-    go (YearAnswer.Past y) e = let q : head ≡ headOf y = cc in rw q (count-bound xinghe sound y)
-    go (YearAnswer.Refused x) e = let bad : _≡_ {A = ℕ} 0 1 = cc in absurd (omega arith)
+    go : (a : YearAnswer) → a ≡ yearAt xinghe n → HeadAnswer.Answered head ≡ headFor a → HeadFound n head
+    go (YearAnswer.Past y) q e =
+        let f = year-found xinghe n y q in
+        let w : n - 1 ≡ y = omega (arith, f .written) in
+        let h : head ≡ headOf y = cc in
+        record { written = omega (arith, f .written); upto = rw w (f .upto); is-head = rw w h }
+    go (YearAnswer.Refused x) q e = let bad : _≡_ {A = ℕ} 0 1 = cc in absurd (omega arith)
+
+-- it has at most thirteen months, and the leap place of its year
+module _ (n : ℕ) (head : YearHead) (e : HeadAnswer.Answered head ≡ yearHead n) where
+  pub head-months : head .months ≤ 13
+  unfolding headOf
+  head-months = rw (head-found n head e .is-head) (count-bound xinghe sound (n - 1))
+
+  pub head-leap : head .leap ≡ leapPlace rule (n - 1)
+  unfolding headOf
+  head-leap = rw (head-found n head e .is-head)
+
+  -- each place below its count is that of a month, whose row is the one at that place of the year
+  module _ (p : ℕ) (h : p < head .months) where
+    pub head-stands : Stands (n - 1) p (head .before + p)
+    unfolding headOf
+    head-stands = let f = head-found n head e in record { year = f .upto; place = rw (f .is-head) at h; month = rw (f .is-head) }
+
+    pub head-row : RowAnswer.Answered (rowOf (head .before + p)) ≡ monthRow n p
+    unfolding rowFor
+    head-row =
+        let f = head-found n head e in
+        let s = head-stands in
+        let w : n - 1 + 1 ≡ n = omega (arith, f .written) in
+        rw (s .month) (ap rowFor (sym (lunation-at xinghe (n - 1) p (s .year) (s .place)) ∙ ap (λ (k : ℕ). lunationAt xinghe k p) w))

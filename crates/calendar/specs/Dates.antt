@@ -25,12 +25,12 @@ unfoldable pub dayIn : MonthRow → ℕ → DayAnswer
 dayIn row i = pick (between 1 i (suc (row .length))) (DayAnswer.Answered (dayOf (row .day + (i - 1)))) (DayAnswer.Refused Refusal.DayOfMonth)
 
 -- day i of the month at place p of year n: refused as the row is, then as the day is
-unfoldable pub dayAt : RowAnswer → ℕ → DayAnswer
-dayAt (RowAnswer.Answered row) i = dayIn row i
-dayAt (RowAnswer.Refused e) i = DayAnswer.Refused e
+unfoldable pub dayFor : RowAnswer → ℕ → DayAnswer
+dayFor (RowAnswer.Answered row) i = dayIn row i
+dayFor (RowAnswer.Refused e) i = DayAnswer.Refused e
 
 abbrev pub dayOfDate : ℕ → ℕ → ℕ → DayAnswer
-dayOfDate n p i = dayAt (monthRow n p) i
+dayOfDate n p i = dayFor (monthRow n p) i
 
 -- the date of day d in the month with that row
 abbrev pub dateIn : MonthRow → ℕ → Date

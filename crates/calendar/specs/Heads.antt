@@ -15,9 +15,9 @@ headOf y =
     record { before = rule .before y; remainder = leapRemainder xinghe y; months = monthCount rule y; leap = leapPlace rule y; solstice = solsticeOf y }
 
 -- of year n as it is written; refused under 1 where the round has no such year
-unfoldable pub headAt : YearAnswer → HeadAnswer
-headAt (YearAnswer.Past y) = HeadAnswer.Answered (headOf y)
-headAt (YearAnswer.Refused e) = HeadAnswer.Refused e
+unfoldable pub headFor : YearAnswer → HeadAnswer
+headFor (YearAnswer.Past y) = HeadAnswer.Answered (headOf y)
+headFor (YearAnswer.Refused e) = HeadAnswer.Refused e
 
 abbrev pub yearHead : ℕ → HeadAnswer
-yearHead n = headAt (yearAt xinghe n)
+yearHead n = headFor (yearAt xinghe n)

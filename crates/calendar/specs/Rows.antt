@@ -25,12 +25,12 @@ rowOf m =
     }
 
 -- the row at place p of year n: refused under 1 where the round has no such year, then under 2 where the year has no such place
-unfoldable pub rowAt : LunationAnswer → RowAnswer
-rowAt (LunationAnswer.Lunation m) = RowAnswer.Answered (rowOf m)
-rowAt (LunationAnswer.Refused e) = RowAnswer.Refused e
+unfoldable pub rowFor : LunationAnswer → RowAnswer
+rowFor (LunationAnswer.Lunation m) = RowAnswer.Answered (rowOf m)
+rowFor (LunationAnswer.Refused e) = RowAnswer.Refused e
 
 abbrev pub monthRow : ℕ → ℕ → RowAnswer
-monthRow n p = rowAt (lunationAt xinghe n p)
+monthRow n p = rowFor (lunationAt xinghe n p)
 
 -- month m stands at place p of the year with y years past
 pub record Stands (y p m : ℕ) : Type 0 where

@@ -1,4 +1,5 @@
 // Refusals and edges: the first and last values that each question answers, and the first that it refuses.
+use crate::lists;
 use crate::questions;
 
 pub fn ask_edges() {
@@ -6,7 +7,9 @@ pub fn ask_edges() {
     ask_days();
     ask_dates();
     ask_carries();
-    questions::ask_forged(0, 0);
+    ask_steps();
+    ask_forged();
+    lists::ask_fills();
     ask_sky();
     ask_cuts();
 }
@@ -54,6 +57,25 @@ fn ask_carries() {
     questions::ask_carry(0, -1);
     questions::ask_carry(0, i64::MAX);
     questions::ask_carry(12511799, i64::MIN);
+}
+
+fn ask_steps() {
+    questions::ask_next(0);
+    questions::ask_next(36);
+    questions::ask_next(2085299);
+    questions::ask_next(12511798);
+    questions::ask_next(12511799);
+    questions::ask_back(0);
+    questions::ask_back(1);
+    questions::ask_back(37);
+    questions::ask_back(2085300);
+    questions::ask_back(12511799);
+}
+
+fn ask_forged() {
+    questions::ask_forged(0, 0);
+    questions::ask_forged(12511799, 1);
+    questions::ask_forged_steps(5);
 }
 
 fn ask_sky() {

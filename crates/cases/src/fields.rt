@@ -65,14 +65,6 @@ pub fn with_phases(line: Line, phases: Phases) -> Line {
     )
 }
 
-fn with_side(line: Line, side: Side) -> Line {
-    match side {
-        Side::AtNode => line.number(0),
-        Side::Outside => line.number(1),
-        Side::Inside => line.number(2),
-    }
-}
-
 // A new moon's distance is whole parts: no half is written beside it.
 fn with_whole_distance(line: Line, distance: Distance) -> Line {
     let remainder = distance.remainder;
@@ -95,7 +87,7 @@ pub fn with_new_moon_node(line: Line, node: Node, side: Side) -> Line {
     let distance = node.distance;
     let eclipse = node.eclipse;
     let eclipse_distance = eclipse.distance;
-    let at_node = with_side(with_whole_distance(line, distance), side);
+    let at_node = with_whole_distance(line, distance).number(side.number());
     with_whole_distance(with_mark(at_node, eclipse), eclipse_distance).number(eclipse.size)
 }
 

@@ -1,6 +1,7 @@
 // The cases: full answers for chosen years, then refusals and edges, in the lines that the independent second program writes.
 mod edges;
 mod fields;
+mod lists;
 mod questions;
 mod years;
 

@@ -3,6 +3,7 @@ use crate::fields;
 use calendar::DateAnswer;
 use calendar::DayAnswer;
 use calendar::HeadAnswer;
+use calendar::MonthRow;
 use calendar::RowAnswer;
 use ephemeris::CorrectionsAnswer;
 use ephemeris::NodesAnswer;
@@ -108,19 +109,59 @@ pub fn ask_carry(lunation: u64, count: i64)
     }
 }
 
-// A carry of a row with one field changed, which no carry may take.
-pub fn ask_forged(lunation: u64, count: i64)
+// The month after, and the month before.
+pub fn ask_next(lunation: u64)
     requires { ⌜ lunation < roundMonths ⌝ }
 {
-    let line = Line::new().text(b"forged").number(lunation).signed(count);
+    let line = Line::new().text(b"next").number(lunation);
+    match calendar::rows::row_of(lunation).next() {
+        RowAnswer::Answered(row) => fields::with_carried_row(line.text(b" ->"), row).write(),
+        RowAnswer::Refused(refusal) => line.refuse(refusal),
+    }
+}
+
+pub fn ask_back(lunation: u64)
+    requires { ⌜ lunation < roundMonths ⌝ }
+{
+    let line = Line::new().text(b"back").number(lunation);
+    match calendar::rows::row_of(lunation).back() {
+        RowAnswer::Answered(row) => fields::with_carried_row(line.text(b" ->"), row).write(),
+        RowAnswer::Refused(refusal) => line.refuse(refusal),
+    }
+}
+
+// A row with one field changed, which no carry and no step may take.
+fn forged_row(lunation: u64) -> MonthRow
+    requires { ⌜ lunation < roundMonths ⌝ }
+{
     let mut row = calendar::rows::row_of(lunation);
     let remainder = row.remainder;
     let changed = DayRemainder {
         parts: std::num::wrapping_add_u64(remainder.parts, 1),
     };
     row.remainder = changed;
-    match row.carry(count) {
+    row
+}
+
+fn write_forged(line: Line, answer: RowAnswer) {
+    match answer {
         RowAnswer::Answered(_) => line.text(b" taken").write(),
         RowAnswer::Refused(refusal) => line.refuse(refusal),
     }
+}
+
+pub fn ask_forged(lunation: u64, count: i64)
+    requires { ⌜ lunation < roundMonths ⌝ }
+{
+    let line = Line::new().text(b"forged").number(lunation).signed(count);
+    write_forged(line, forged_row(lunation).carry(count));
+}
+
+pub fn ask_forged_steps(lunation: u64)
+    requires { ⌜ lunation < roundMonths ⌝ }
+{
+    let next = Line::new().text(b"forged-next").number(lunation);
+    write_forged(next, forged_row(lunation).next());
+    let back = Line::new().text(b"forged-back").number(lunation);
+    write_forged(back, forged_row(lunation).back());
 }

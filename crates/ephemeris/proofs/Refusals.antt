@@ -11,7 +11,7 @@ use Rattle.lunisolar.specs.Calendars.{yearAt}
 use Rattle.lunisolar.specs.declared.YearAnswer.{YearAnswer}
 use Rattle.sun.specs.Points.{isCut, pointOf}
 use Rattle.calendar.proofs.Refusals.{isYear, isPlace, of-place}
-use Rattle.ephemeris.specs.Jobs.{phasesIn, phasesAt, nodesIn, nodesAt, correctionsIn, correctionsAt, pointIn, pointAt, cutPoint}
+use Rattle.ephemeris.specs.Jobs.{phasesFor, phasesAt, nodesFor, nodesAt, correctionsFor, correctionsAt, pointIn, pointFor, cutPoint}
 use Rattle.ephemeris.specs.Answers.{phasesNumber, phasesValues, zeroPhases, nodesNumber, nodesValues, zeroNodes, correctionsNumber, correctionsValues, zeroCorrections, pointNumber, pointValues, zeroPoint}
 use Rattle.ephemeris.specs.declared.PhasesAnswer.{PhasesAnswer}
 use Rattle.ephemeris.specs.declared.NodesAnswer.{NodesAnswer}
@@ -19,21 +19,21 @@ use Rattle.ephemeris.specs.declared.CorrectionsAnswer.{CorrectionsAnswer
 use Rattle.ephemeris.specs.declared.PointAnswer.{PointAnswer}
 
 pub phases-numbers : (n p : ℕ) → phasesNumber (phasesAt n p) ≡ pick (isYear n) (pick (isPlace n p) 0 2) 1
-unfolding phasesIn
-phases-numbers n p = of-place (λ a. phasesNumber (phasesIn a)) n p
+unfolding phasesFor
+phases-numbers n p = of-place (λ a. phasesNumber (phasesFor a)) n p
 
 pub nodes-numbers : (n p : ℕ) → nodesNumber (nodesAt n p) ≡ pick (isYear n) (pick (isPlace n p) 0 2) 1
-unfolding nodesIn
-nodes-numbers n p = of-place (λ a. nodesNumber (nodesIn a)) n p
+unfolding nodesFor
+nodes-numbers n p = of-place (λ a. nodesNumber (nodesFor a)) n p
 
 pub corrections-numbers : (n p : ℕ) → correctionsNumber (correctionsAt n p) ≡ pick (isYear n) (pick (isPlace n p) 0 2) 1
-unfolding correctionsIn
-corrections-numbers n p = of-place (λ a. correctionsNumber (correctionsIn a)) n p
+unfolding correctionsFor
+corrections-numbers n p = of-place (λ a. correctionsNumber (correctionsFor a)) n p
 
 pub point-numbers : (n c i : ℕ) → pointNumber (cutPoint n c i) ≡ pick (isYear n) (pick (isCut c && ltb i c) 0 8) 1
-unfolding yearAt pointAt pointIn
+unfolding yearAt pointFor pointIn
 point-numbers n c i =
-    through (λ a. pointNumber (pointAt a c i)) (isYear n) (YearAnswer.Past (n - 1)) (YearAnswer.Refused Refusal.Year)
+    through (λ a. pointNumber (pointFor a c i)) (isYear n) (YearAnswer.Past (n - 1)) (YearAnswer.Refused Refusal.Year)
     ∙ ap (λ (x : ℕ). pick (isYear n) x 1)
     (through pointNumber (isCut c && ltb i c) (PointAnswer.Answered (pointOf (n - 1) c i)) (PointAnswer.Refused Refusal.Cut))
 

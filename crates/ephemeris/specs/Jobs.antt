@@ -19,35 +19,35 @@ use Rattle.ephemeris.specs.declared.CorrectionsAnswer.{CorrectionsAnswer
 use Rattle.ephemeris.specs.declared.PointAnswer.{PointAnswer}
 
 -- of the month at place p of year n: refused under 1, then under 2, as its row is
-unfoldable pub phasesIn : LunationAnswer → PhasesAnswer
-phasesIn (LunationAnswer.Lunation m) = PhasesAnswer.Answered (phasesOf m)
-phasesIn (LunationAnswer.Refused e) = PhasesAnswer.Refused e
+unfoldable pub phasesFor : LunationAnswer → PhasesAnswer
+phasesFor (LunationAnswer.Lunation m) = PhasesAnswer.Answered (phasesOf m)
+phasesFor (LunationAnswer.Refused e) = PhasesAnswer.Refused e
 
 abbrev pub phasesAt : ℕ → ℕ → PhasesAnswer
-phasesAt n p = phasesIn (lunationAt xinghe n p)
+phasesAt n p = phasesFor (lunationAt xinghe n p)
 
-unfoldable pub nodesIn : LunationAnswer → NodesAnswer
-nodesIn (LunationAnswer.Lunation m) = NodesAnswer.Answered (nodesOf m)
-nodesIn (LunationAnswer.Refused e) = NodesAnswer.Refused e
+unfoldable pub nodesFor : LunationAnswer → NodesAnswer
+nodesFor (LunationAnswer.Lunation m) = NodesAnswer.Answered (nodesOf m)
+nodesFor (LunationAnswer.Refused e) = NodesAnswer.Refused e
 
 abbrev pub nodesAt : ℕ → ℕ → NodesAnswer
-nodesAt n p = nodesIn (lunationAt xinghe n p)
+nodesAt n p = nodesFor (lunationAt xinghe n p)
 
-unfoldable pub correctionsIn : LunationAnswer → CorrectionsAnswer
-correctionsIn (LunationAnswer.Lunation m) = CorrectionsAnswer.Answered (correctionsOf m)
-correctionsIn (LunationAnswer.Refused e) = CorrectionsAnswer.Refused e
+unfoldable pub correctionsFor : LunationAnswer → CorrectionsAnswer
+correctionsFor (LunationAnswer.Lunation m) = CorrectionsAnswer.Answered (correctionsOf m)
+correctionsFor (LunationAnswer.Refused e) = CorrectionsAnswer.Refused e
 
 abbrev pub correctionsAt : ℕ → ℕ → CorrectionsAnswer
-correctionsAt n p = correctionsIn (lunationAt xinghe n p)
+correctionsAt n p = correctionsFor (lunationAt xinghe n p)
 
 -- point i of cut c of the year with y years past: refused under 8 where the cut is not 24, 60 or 72, or the point not below it
 unfoldable pub pointIn : ℕ → ℕ → ℕ → PointAnswer
 pointIn y c i = pick (isCut c && ltb i c) (PointAnswer.Answered (pointOf y c i)) (PointAnswer.Refused Refusal.Cut)
 
 -- of year n as it is written: refused under 1 first
-unfoldable pub pointAt : YearAnswer → ℕ → ℕ → PointAnswer
-pointAt (YearAnswer.Past y) c i = pointIn y c i
-pointAt (YearAnswer.Refused e) c i = PointAnswer.Refused e
+unfoldable pub pointFor : YearAnswer → ℕ → ℕ → PointAnswer
+pointFor (YearAnswer.Past y) c i = pointIn y c i
+pointFor (YearAnswer.Refused e) c i = PointAnswer.Refused e
 
 abbrev pub cutPoint : ℕ → ℕ → ℕ → PointAnswer
-cutPoint n c i = pointAt (yearAt xinghe n) c i
+cutPoint n c i = pointFor (yearAt xinghe n) c i

@@ -14,7 +14,7 @@ use Rattle.reckoning.proofs.Laws.{Laws}
 use Rattle.reckoning.proofs.Chapters.{instant-laws, common-year, leap-place-by}
 use Rattle.reckoning.proofs.Leaps.{year-high, year-ends, common}
 use Rattle.refusal.specs.declared.Refusal.{Refusal}
-use Rattle.lunisolar.specs.Calendars.{meansOf, ruleOf, leapRemainder, Sound, yearAt, lunationIn, lunationAt}
+use Rattle.lunisolar.specs.Calendars.{meansOf, ruleOf, leapRemainder, Sound, yearAt, lunationFor, lunationAt}
 use Rattle.lunisolar.specs.declared.Constants.{Constants}
 use Rattle.lunisolar.specs.declared.YearAnswer.{YearAnswer}
 use Rattle.lunisolar.specs.declared.LunationAnswer.{LunationAnswer}
@@ -86,15 +86,15 @@ pub record LunationFound (k : Constants) (n p m : ℕ) : Type 0 where
   pub month : m ≡ ruleOf k .before year + p
 
 pub lunation-found : (k : Constants) (n p m : ℕ) → LunationAnswer.Lunation m ≡ lunationAt k n p → LunationFound k n p m
-unfolding lunationIn
+unfolding lunationFor
 lunation-found k n p m e = go (yearAt k n) refl e
   where
-    go : (a : YearAnswer) → a ≡ yearAt k n → LunationAnswer.Lunation m ≡ lunationIn k a p → LunationFound k n p m
+    go : (a : YearAnswer) → a ≡ yearAt k n → LunationAnswer.Lunation m ≡ lunationFor k a p → LunationFound k n p m
     go (YearAnswer.Past y) q e =
         let r = chosen (ltb p (monthCount (ruleOf k) y)) (LunationAnswer.Lunation (ruleOf k .before y + p)) (LunationAnswer.Refused Refusal.Place) (LunationAnswer.Lunation m) e (λ z. let bad : _≡_ {A = ℕ} 0 1 = cc in omega arith) in
         record { year = y; found = year-found k n y q; place = ltb→lt p (monthCount (ruleOf k) y) (r .0); month = cc (r .1) }
     go (YearAnswer.Refused x) q e = let bad : _≡_ {A = ℕ} 0 1 = cc in absurd (omega arith)
 
 pub lunation-at : (k : Constants) (y p : ℕ) → y < k .years → p < monthCount (ruleOf k) y → lunationAt k (y + k .first) p ≡ LunationAnswer.Lunation (ruleOf k .before y + p)
-unfolding lunationIn
+unfolding lunationFor
 lunation-at k y p h i = rw (year-at k y h, lt-ltb p (monthCount (ruleOf k) y) i)

@@ -36,10 +36,10 @@ unfoldable pub yearAt : Constants → ℕ → YearAnswer
 yearAt k n = pick (between (k .first) n (k .first + k .years)) (YearAnswer.Past (n - k .first)) (YearAnswer.Refused Refusal.Year)
 
 -- the month at place p of year n: refused as the year is, then under 2 where the year has no such place
-unfoldable pub lunationIn : Constants → YearAnswer → ℕ → LunationAnswer
-lunationIn k (YearAnswer.Past y) p =
+unfoldable pub lunationFor : Constants → YearAnswer → ℕ → LunationAnswer
+lunationFor k (YearAnswer.Past y) p =
     pick (ltb p (monthCount (ruleOf k) y)) (LunationAnswer.Lunation (ruleOf k .before y + p)) (LunationAnswer.Refused Refusal.Place)
-lunationIn k (YearAnswer.Refused e) p = LunationAnswer.Refused e
+lunationFor k (YearAnswer.Refused e) p = LunationAnswer.Refused e
 
 abbrev pub lunationAt : Constants → ℕ → ℕ → LunationAnswer
-lunationAt k n p = lunationIn k (yearAt k n) p
+lunationAt k n p = lunationFor k (yearAt k n) p

@@ -7,7 +7,7 @@ use native.Mathlib.Omega.{arith}
 use borrow.Author.Tests.{le-leb, lt-leb}
 use Rattle.reckoning.specs.Means.{newMoon, newMoonRest}
 use Rattle.reckoning.proofs.Searches.{le-or-lt}
-use Rattle.units.specs.Xinghe.{N, P, means}
+use Rattle.units.specs.Xinghe.{N, P, means, monthlyParts}
 use Rattle.moon.specs.NewMoons.{newMoonOf, monthlyAddition}
 
 pub next-new-moon : (m : ℕ) → newMoonOf (suc m) ≡ monthlyAddition (newMoonOf m)
@@ -15,12 +15,12 @@ unfolding newMoonOf newMoon newMoonRest monthlyAddition
 next-new-moon m =
     let r : ℕ = m * P % N in
     ⊎-elim
-    (λ (h : N ≤ r + 110647).
+    (λ (h : N ≤ r + monthlyParts).
     let d : suc m * P / N ≡ m * P / N + 29 + 1 = omega arith in
-    let e : suc m * P % N ≡ r + 110647 - N = omega arith in
-    rw (le-leb N (r + 110647) h, d, e))
-    (λ (h : r + 110647 < N).
+    let e : suc m * P % N ≡ r + monthlyParts - N = omega arith in
+    rw (le-leb N (r + monthlyParts) h, d, e))
+    (λ (h : r + monthlyParts < N).
     let d : suc m * P / N ≡ m * P / N + 29 = omega arith in
-    let e : suc m * P % N ≡ r + 110647 = omega arith in
-    rw (lt-leb N (r + 110647) h, d, e))
-    (le-or-lt N (r + 110647))
+    let e : suc m * P % N ≡ r + monthlyParts = omega arith in
+    rw (lt-leb N (r + monthlyParts) h, d, e))
+    (le-or-lt N (r + monthlyParts))

@@ -20,7 +20,7 @@ pub fn new_moon(lunation: u64) -> NewMoon
     let carried = DayRemainder { parts: 0 }.carry(lunation * Xinghe::P);
     let remainder = carried.remainder;
     NewMoon {
-        day: carried.days,
+        day: carried.whole,
         remainder,
     }
 }
@@ -29,5 +29,9 @@ pub fn new_moon(lunation: u64) -> NewMoon
 pub fn length_of(remainder: DayRemainder) -> u64
     ensures { λ r. ⌜ r ≡ lengthOf remainder ⌝ }
 {
-    if 97883 <= remainder.parts { 30 } else { 29 }
+    if Xinghe::LONG_FROM <= remainder.parts {
+        30
+    } else {
+        29
+    }
 }

@@ -29,7 +29,7 @@ pub fn phase_at(quarter: u64) -> Phase
     let carried = DayRemainder { parts: 0 }.carry(quarters / 4);
     let remainder = carried.remainder;
     Phase {
-        day: carried.days,
+        day: carried.whole,
         remainder,
         quarters: quarters % 4,
     }

@@ -15,7 +15,7 @@ use Rattle.lunisolar.proofs.Laws.{before-is}
 use Rattle.units.specs.Xinghe.{xinghe, rule, N, P, M, eraYears, eraMonths, roundMonths}
 use Rattle.units.proofs.Sound.{sound}
 use Rattle.node.specs.Eclipses.{distanceOf, eclipseAt, eclipseOf, noEclipse, nodeAt}
-use Rattle.node.specs.Sides.{heads, headIn, headOf, distance, passed}
+use Rattle.node.specs.Sides.{heads, headIn, ownHead, distance, passed}
 use Rattle.node.specs.Nodes.{nodesOf}
 
 -- an era's head is the first month of its first year
@@ -26,14 +26,14 @@ era-heads e = omega (arith, before-is xinghe sound (e * eraYears))
 pub heads-right : map distance heads ≡ map (λ (e : ℕ). e * eraMonths * P % M) (0 ∷ 1 ∷ 2 ∷ 3 ∷ 4 ∷ 5 ∷ [])
 heads-right = refl
 
-head-right : (m : ℕ) → m < roundMonths → distance (headOf m) ≡ m / eraMonths * eraMonths * P % M
+head-right : (m : ℕ) → m < roundMonths → distance (ownHead m) ≡ m / eraMonths * eraMonths * P % M
 head-right m h =
     let e : ℕ = m / eraMonths in
-    eqb→eq (distance (headOf m)) (e * eraMonths * P % M)
+    eqb→eq (distance (ownHead m)) (e * eraMonths * P % M)
     (all-at (λ (x : ℕ). eqb (distance (headIn x)) (x * eraMonths * P % M)) 6 tt e (omega arith))
 
 -- so what is left where the whole M's since the head are counted is the distance since the last node
-pub count-rest : (m : ℕ) → m < roundMonths → (distance (headOf m) + m % eraMonths * P) % M ≡ m * P % M
+pub count-rest : (m : ℕ) → m < roundMonths → (distance (ownHead m) + m % eraMonths * P) % M ≡ m * P % M
 count-rest m h =
     let e : m / eraMonths * eraMonths * P + m % eraMonths * P ≡ m * P = omega arith in
     rw (head-right m h, mod-add-mod, e)

@@ -9,6 +9,12 @@ use Rattle.units.specs.Xinghe.{N, P, M, eraMonths}
 use Rattle.node.specs.declared.Side.{Side}
 use Rattle.node.specs.declared.Head.{Head}
 
+-- the side as a number, 0 at the node, 1 outside, 2 inside: so lists and lines have it
+abbrev pub sideNumber : Side → ℕ
+sideNumber Side.AtNode = 0
+sideNumber Side.Outside = 1
+sideNumber Side.Inside = 2
+
 abbrev head : ℕ → ℕ → Side → Head
 head degrees remainder side = record { degrees = degrees; remainder = remainder; side = side }
 
@@ -27,15 +33,15 @@ heads =
 abbrev pub headIn : ℕ → Head
 headIn e = getD heads e (head 0 0 Side.AtNode)
 
-abbrev pub headOf : ℕ → Head
-headOf m = headIn (m / eraMonths)
+abbrev pub ownHead : ℕ → Head
+ownHead m = headIn (m / eraMonths)
 
 abbrev pub distance : Head → ℕ
 distance h = h .degrees * N + h .remainder
 
 -- the whole M's, where P is added to the head's distance for each month since
 unfoldable pub passed : ℕ → ℕ
-passed m = (distance (headOf m) + m % eraMonths * P) / M
+passed m = (distance (ownHead m) + m % eraMonths * P) / M
 
 abbrev pub turned : Side → Side
 turned Side.AtNode = Side.AtNode
@@ -44,4 +50,4 @@ turned Side.Inside = Side.Outside
 
 -- distance exactly 0 is at the node; an even count of whole M's leaves the head's side, an odd one turns it
 unfoldable pub sideOf : ℕ → Side
-sideOf m = pick (eqb (m * P % M) 0) Side.AtNode (pick (eqb (passed m % 2) 0) (headOf m .side) (turned (headOf m .side)))
+sideOf m = pick (eqb (m * P % M) 0) Side.AtNode (pick (eqb (passed m % 2) 0) (ownHead m .side) (turned (ownHead m .side)))

@@ -3,10 +3,10 @@
 use units::Xinghe;
 use units::remainder::DayRemainder;
 ghost use mathlib.Core.Path.{_≡_};
-ghost use Prim.Native.Nat.{_<_};
-ghost use Rattle.units.specs.Xinghe.{roundMonths};
+ghost use Prim.Native.Nat.{_*_, _<_};
+ghost use Rattle.units.specs.Xinghe.{N, M, roundMonths};
 ghost use Rattle.node.specs.Eclipses.{distanceOf, eclipseAt, eclipseOf, nodeAt};
-ghost use Rattle.node.specs.Sides.{turned, sideOf};
+ghost use Rattle.node.specs.Sides.{sideNumber, turned, sideOf};
 ghost use Rattle.node.specs.Nodes.{nodesOf};
 
 // Which side of the road the moon stands on (表裏).
@@ -14,6 +14,19 @@ pub enum Side {
     AtNode,
     Outside,
     Inside,
+}
+
+impl Side {
+    // As lists and lines of numbers have it.
+    pub fn number(self) -> u64
+        ensures { λ r. ⌜ r ≡ sideNumber self ⌝ }
+    {
+        match self {
+            Side::AtNode => 0,
+            Side::Outside => 1,
+            Side::Inside => 2,
+        }
+    }
 }
 
 // A distance in degrees, with its remainder over N and the half of a part beside it.
@@ -90,15 +103,15 @@ fn distance_of(halves: u64) -> Distance
     let carried = DayRemainder { parts: 0 }.carry(halves / 2);
     let remainder = carried.remainder;
     Distance {
-        degrees: carried.days,
+        degrees: carried.whole,
         remainder,
         half: halves % 2,
     }
 }
 
-// An eclipse that many halves from the node.
+// An eclipse that many halves from the node, which are less than 15 degrees.
 fn eclipse_at(halves: u64) -> Eclipse
-    requires { ⌜ halves < 6255900 ⌝ }
+    requires { ⌜ halves < 2 * (15 * N) ⌝ }
     ensures { λ r. ⌜ r ≡ eclipseAt halves ⌝ }
 {
     let distance = distance_of(halves);
@@ -111,7 +124,7 @@ fn eclipse_at(halves: u64) -> Eclipse
 
 // The eclipse at a distance since the last node.
 fn eclipse_of(halves: u64) -> Eclipse
-    requires { ⌜ halves < 72285614 ⌝ }
+    requires { ⌜ halves < 2 * M ⌝ }
     ensures { λ r. ⌜ r ≡ eclipseOf halves ⌝ }
 {
     if halves <= Xinghe::P {
@@ -129,7 +142,7 @@ fn eclipse_of(halves: u64) -> Eclipse
 }
 
 fn node_at(halves: u64) -> Node
-    requires { ⌜ halves < 72285614 ⌝ }
+    requires { ⌜ halves < 2 * M ⌝ }
     ensures { λ r. ⌜ r ≡ nodeAt halves ⌝ }
 {
     let distance = distance_of(halves);

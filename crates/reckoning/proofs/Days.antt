@@ -1,13 +1,10 @@
--- Dates and days, from a rule's laws and days that climb with the months, alone: a date is a year, a place and a day of the month from 1.
+-- The month of a day, from days that climb with the months alone.
 -- Assumes nothing.
 use mathlib.Core.Path.{_≡_}
-use Prim.Native.Nat.{ℕ, suc, _+_, _-_, _≤_, _<_}
+use Prim.Native.Nat.{ℕ, suc, _≤_, _<_}
 use native.Mathlib.Omega.{arith}
-use Rattle.reckoning.specs.Rule.{Rule, monthCount, yearOf, placeOf}
-use Rattle.reckoning.specs.Dates.{monthOf, dayIn}
+use Rattle.reckoning.specs.Dates.{monthOf}
 use Rattle.reckoning.proofs.Climbs.{Climbs, climb-lt, last-low, last-high, last-is}
-use Rattle.reckoning.proofs.Laws.{Laws}
-use Rattle.reckoning.proofs.Rows.{month-back, place-in, year-of, place-of}
 
 module _ (day : ℕ → ℕ) (c : Climbs day) where
   -- EACH DAY LIES IN EXACTLY ONE MONTH
@@ -26,13 +23,3 @@ module _ (day : ℕ → ℕ) (c : Climbs day) where
   -- a day before a month's first lies in an earlier month
   pub month-under : (d m : ℕ) → d < day m → monthOf day d < m
   month-under d m h = climb-lt day c (monthOf day d) m (omega (arith, month-from d))
-
-  pub day-back : (d : ℕ) → day (monthOf day d) + dayIn day d ≡ d + 1
-  unfolding dayIn
-  day-back d = omega (arith, month-from d)
-
-  pub day-in : (m i : ℕ) → 1 ≤ i → day m + i ≤ day (suc m) → (monthOf day (day m + i - 1) ≡ m) × (dayIn day (day m + i - 1) ≡ i)
-  unfolding dayIn
-  day-in m i lo hi =
-      let e = month-is (day m + i - 1) m (omega arith) (omega arith) in
-      (e, rw e (omega arith))

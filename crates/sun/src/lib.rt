@@ -19,7 +19,7 @@ pub fn winter_solstice(y: u64) -> Solstice
     let carried = DegreeRemainder { parts: 0 }.carry(y * Xinghe::P);
     let remainder = carried.remainder;
     Solstice {
-        day: carried.days,
+        day: carried.whole,
         remainder,
     }
 }
@@ -40,7 +40,7 @@ pub fn point_of(y: u64, cut: u64, index: u64) -> Point
     let carried = DegreeRemainder { parts: 0 }.carry(over / cut);
     let remainder = carried.remainder;
     Point {
-        day: carried.days,
+        day: carried.whole,
         remainder,
         rest: over % cut,
     }

@@ -61,14 +61,6 @@ pub fn fed_phases(digest: Digest, phases: Phases) -> Digest {
     )
 }
 
-fn side_number(side: Side) -> u64 {
-    match side {
-        Side::AtNode => 0,
-        Side::Outside => 1,
-        Side::Inside => 2,
-    }
-}
-
 // A new moon's distance is whole parts: no half is fed beside it.
 fn fed_whole_distance(digest: Digest, distance: Distance) -> Digest {
     let remainder = distance.remainder;
@@ -84,7 +76,7 @@ fn fed_new_moon_node(digest: Digest, node: Node, side: Side) -> Digest {
     let eclipse = node.eclipse;
     let eclipse_distance = eclipse.distance;
     let at_node = fed_whole_distance(digest, distance)
-        .feed(side_number(side))
+        .feed(side.number())
         .feed(mark(eclipse.marked));
     fed_whole_distance(at_node, eclipse_distance).feed(eclipse.size)
 }

@@ -7,13 +7,13 @@ use Rattle.units.specs.declared.remainder.DegreeRemainder.{DegreeRemaind
 use Rattle.units.specs.declared.remainder.DayCarry.{DayCarry}
 use Rattle.units.specs.declared.remainder.DegreeCarry.{DegreeCarry}
 
--- parts over N added to a remainder over N: whole N's are days
+-- parts over N added to a remainder over N: each whole N is a day, or a degree
 abbrev pub dayCarry : DayRemainder → ℕ → DayCarry
-dayCarry r parts = record { days = (r .parts + parts) / N; remainder = record { parts = (r .parts + parts) % N } }
+dayCarry r parts = record { whole = (r .parts + parts) / N; remainder = record { parts = (r .parts + parts) % N } }
 
--- parts over D added to a remainder over D: whole D's are days
+-- parts over D added to a remainder over D: each whole D is a day
 abbrev pub degreeCarry : DegreeRemainder → ℕ → DegreeCarry
-degreeCarry r parts = record { days = (r .parts + parts) / D; remainder = record { parts = (r .parts + parts) % D } }
+degreeCarry r parts = record { whole = (r .parts + parts) / D; remainder = record { parts = (r .parts + parts) % D } }
 
 -- the day of the sixty (大餘): day 0 is jiazi, which is numbered 0
 abbrev pub sexagenaryOf : ℕ → ℕ

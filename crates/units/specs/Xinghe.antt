@@ -61,6 +61,10 @@ roundDays = 369481020
 abbrev pub longFrom : ℕ
 longFrom = 97883
 
+-- what the treatise's monthly addition adds to the small remainder, beside 29 days: P − 29·N
+abbrev pub monthlyParts : ℕ
+monthlyParts = 110647
+
 abbrev pub xinghe : Constants
 xinghe =
     record { year = P; degree = D; month = P; day = N; chapter = chapterYears; lunations = chapterMonths; first = 1; years = roundYears }

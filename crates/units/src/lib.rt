@@ -34,6 +34,9 @@ impl Xinghe {
     // the small circuit (小周)
     pub const C: u64 = 7513;
 
+    // a month has 30 days from this small remainder on
+    pub const LONG_FROM: u64 = 97883;
+
     // the years and the months of a chapter (章歲, 章月)
     pub const CHAPTER: u64 = 562;
 

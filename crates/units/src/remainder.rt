@@ -14,27 +14,27 @@ pub struct DegreeRemainder {
     pub parts: u64,
 }
 
-// Whole days, and what is left over N.
+// Whole days or degrees, and what is left over N.
 pub struct DayCarry {
-    pub days: u64,
+    pub whole: u64,
     pub remainder: DayRemainder,
 }
 
 // Whole days, and what is left over D.
 pub struct DegreeCarry {
-    pub days: u64,
+    pub whole: u64,
     pub remainder: DegreeRemainder,
 }
 
 impl DayRemainder {
-    // So many parts over N more: each whole N is a day.
+    // So many parts over N more: each whole N is a day, or a degree.
     pub fn carry(self, parts: u64) -> DayCarry
         requires { ⌜ self .parts + parts < 18446744073709551616 ⌝ }
         ensures { λ r. ⌜ r ≡ dayCarry self parts ⌝ }
     {
         let sum = self.parts + parts;
         DayCarry {
-            days: sum / Xinghe::N,
+            whole: sum / Xinghe::N,
             remainder: DayRemainder {
                 parts: sum % Xinghe::N,
             },
@@ -50,7 +50,7 @@ impl DegreeRemainder {
     {
         let sum = self.parts + parts;
         DegreeCarry {
-            days: sum / Xinghe::D,
+            whole: sum / Xinghe::D,
             remainder: DegreeRemainder {
                 parts: sum % Xinghe::D,
             },

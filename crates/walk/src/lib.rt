@@ -1,9 +1,9 @@
 // A walk: a row carried by each of a list of signed counts in turn.
 use calendar::MonthRow;
-use calendar::RowAnswer;
+use refusal::Refusal;
+use units::Xinghe;
 ghost use mathlib.Core.Path.{_≡_};
-ghost use mathlib.Core.Bool.{true};
-ghost use Rattle.walk.specs.Walked.{walked, Genuine};
+ghost use Rattle.walk.specs.Walked.{walkAnswer, walkNumber, walkValues, zeroWalk};
 
 // Where a walk ends, the sum of the answered counts, and how many were answered.
 pub struct Walked {
@@ -12,38 +12,62 @@ pub struct Walked {
     pub answered: usize,
 }
 
-// Each carry is handed the row that the last answered one gave, at first the row that the walk starts from.
-pub fn walk(start: MonthRow, counts: &[i64]) -> Walked
-    ensures { λ r. ⌜ r ≡ walked start (now (counts .entry)) ⌝ }
-{
-    let mut row = start;
-    let mut answered: usize = 0;
-    let mut i = 0;
-    while i < counts.len() {
-        let count = counts[i];
-        i += 1;
-        match row.carry(count) {
-            RowAnswer::Answered(next) => {
-                row = next;
-                answered += 1;
-            }
-            RowAnswer::Refused(_) => {}
+impl Walked {
+    pub fn zero() -> Walked
+        ensures { λ r. ⌜ r ≡ zeroWalk ⌝ }
+    {
+        let row = MonthRow::zero();
+        Walked {
+            row,
+            sum: 0,
+            answered: 0,
         }
     }
-    // Refused carries move nothing, so the sum is how far the walk has come.
-    let sum = walking::difference(row.lunation, start.lunation);
-    Walked { row, sum, answered }
 }
 
-// Demand 3 of the functions themselves: whether one carry of the first row by the sum of the answered counts gives the row in which the walk
-// over them ends. From a genuine row it does, whatever the list.
-pub fn one_carry_agrees(start: MonthRow, counts: &[i64]) -> bool
-    ensures { λ r. ⌜ (Genuine start → r ≡ true) ⌝ }
+// A refused carry is no refusal of the walk: only a row that is not genuine is.
+pub enum WalkAnswer {
+    Answered(Walked),
+    Refused(Refusal),
+}
+
+impl WalkAnswer {
+    pub fn number(self) -> u64
+        ensures { λ r. ⌜ r ≡ walkNumber self ⌝ }
+    {
+        match self {
+            WalkAnswer::Answered(_) => 0,
+            WalkAnswer::Refused(e) => e.number(),
+        }
+    }
+
+    pub fn values(self) -> Walked
+        ensures { λ r. ⌜ r ≡ walkValues self ⌝ }
+    {
+        match self {
+            WalkAnswer::Answered(end) => end,
+            WalkAnswer::Refused(_) => Walked::zero(),
+        }
+    }
+}
+
+// The first row is tested once, the month alone is moved, and one row is worked out at the end: by demand 3 that is the walk which carries
+// the row by each count.
+pub fn walk(start: MonthRow, counts: &[i64]) -> WalkAnswer
+    ensures { λ r. ⌜ r ≡ walkAnswer start (now (counts .entry)) ⌝ }
 {
-    let end = walk(start, counts);
-    let last = end.row;
-    match start.carry(end.sum) {
-        RowAnswer::Answered(row) => calendar::carries::same_row(row, last),
-        RowAnswer::Refused(_) => false,
+    if start.is_genuine() {
+        let from = start.lunation;
+        let end = walking::walk_months(Xinghe::MONTHS, from, counts);
+        let row = calendar::rows::row_of(end.month);
+        // refused carries move nothing, so the sum is how far the walk has come
+        let sum = walking::difference(end.month, from);
+        WalkAnswer::Answered(Walked {
+            row,
+            sum,
+            answered: end.answered,
+        })
+    } else {
+        WalkAnswer::Refused(Refusal::Row)
     }
 }

@@ -1,11 +1,11 @@
--- What the code of a calendar's `carry` finds, one lemma for each way through it, and the turns of a walk's loop.
+-- What the code of a calendar's `carry` finds, one lemma for each way through it, and the turns of the loop of `walk_months`.
 -- Assumes nothing.
 use Prim.Native.Nat.{ℕ, _+_, _<_, _≤_}
 use mathlib.Core.Path.{_≡_, refl, sym, ap, _∙_}
 use mathlib.Core.Bool.{Bool, true, false, _&&_}
 use mathlib.Core.List.{List, [], _∷_}
 use native.Mathlib.Omega.{arith}
-use native.Mathlib.Nat.{le-antisymm}
+use native.Mathlib.Nat.{le-antisymm, add-zero}
 use native.Mathlib.Numerals.{add-one}
 use borrow.Author.Tests.{lt-ltb, le-ltb, ltb-true}
 use lib.Dec.{ltb}
@@ -14,7 +14,8 @@ use lib.Seq.{drop-cons, drop-length}
 use lib.IntN.{ℤ, pos, negsuc, natAbs, _+ℤ_}
 use Rattle.reckoning.specs.Search.{pick}
 use Rattle.refusal.specs.declared.Refusal.{Refusal}
-use Rattle.walking.specs.Walk.{Calendar, Answer, answered, refused, inRound, genuine, carry, stand, one, walk, number}
+use Rattle.walking.specs.Walk.{Calendar, answered, refused, inRound, genuine, carry}
+use Rattle.walking.specs.Paper.{finalMonth, answeredSteps}
 use Rattle.walking.specs.Signed.{targetOf}
 use Rattle.walking.specs.declared.Target.{Target}
 use Rattle.walking.proofs.Walks.{and-both}
@@ -31,6 +32,10 @@ passed false n e = refl
 inside : (size : ℕ) (z : ℤ) → inRound size z ≡ true → natAbs z < size
 inside size (pos n) e = ltb-true n size e
 inside size (negsuc n) e = let bad : _≡_ {A = ℕ} 0 1 = cc in absurd (omega arith)
+
+one-at-most : (b : Bool) → pick b 1 0 ≤ 1
+one-at-most true = omega arith
+one-at-most false = omega arith
 
 pub reached-below : (size : ℕ) (z : ℤ) (k : ℕ) → Target.Month k ≡ targetOf size z → k < size
 reached-below size z k e =
@@ -61,43 +66,52 @@ module _ {R : Type 0} (C : Calendar R) (r : R) where
     pub carry-outside : genuine C r ≡ true → Target.Outside ≡ targetOf (C .size) (pos (C .month r) +ℤ c) → carry C r c ≡ refused Refusal.Carry
     carry-outside g e = rw (g, passed (inRound (C .size) (pos (C .month r) +ℤ c)) (natAbs (pos (C .month r) +ℤ c)) e)
 
--- a walk's loop so far: it stands at r, after i counts of cs of which n were answered, and the rest of the walk from there is the whole
--- walk from r₀
-pub record SoFar {R : Type 0} (C : Calendar R) (r₀ : R) (cs : List ℤ) (r : R) (n i : ℕ) : Type 0 where
+-- a walk by months so far: it stands at month k, after i counts of cs of which n were answered, and the rest of the walk from there is the
+-- whole walk from the month m
+pub record SoFar (size m : ℕ) (cs : List ℤ) (k n i : ℕ) : Type 0 where
   pub index : i ≤ length cs
   pub few : n ≤ i
-  pub rows : walk C r (drop i cs) ≡ walk C r₀ cs
-  pub hits : n + number C r (drop i cs) ≡ number C r₀ cs
+  pub in-round : k < size
+  pub months : finalMonth size k (drop i cs) ≡ finalMonth size m cs
+  pub hits : n + answeredSteps size k (drop i cs) ≡ answeredSteps size m cs
 
-one-at-most : {R : Type 0} (a : Answer R) → one a ≤ 1
-one-at-most (answered r) = omega arith
-one-at-most (refused e) = omega arith
+module _ (size m : ℕ) (cs : List ℤ) where
+  pub at-start : m < size → SoFar size m cs m 0 0
+  at-start h = record { index = omega arith; few = omega arith; in-round = h; months = refl; hits = omega arith }
 
-module _ {R : Type 0} (C : Calendar R) (r₀ : R) (cs : List ℤ) where
-  pub at-start : SoFar C r₀ cs r₀ 0 0
-  at-start = record { index = omega arith; few = omega arith; rows = refl; hits = omega arith }
+  module _ (k n i : ℕ) (s : SoFar size m cs k n i) where
+    -- the count of this turn, in whole numbers from the month
+    abbrev leads : ℤ
+    leads = pos k +ℤ getD cs i (pos 0)
 
-  module _ (r : R) (n i : ℕ) (s : SoFar C r₀ cs r n i) where
     rest : i < length cs → drop i cs ≡ getD cs i (pos 0) ∷ drop (i + 1) cs
     rest h = rw (add-one, drop-cons cs i (pos 0))
 
     -- one turn more
-    pub on : (a : Answer R) → i < length cs → carry C r (getD cs i (pos 0)) ≡ a → SoFar C r₀ cs (stand r a) (n + one a) (i + 1)
-    unfolding walk number
-    on a h e =
-        let rows : walk C r (getD cs i (pos 0) ∷ drop (i + 1) cs) ≡ walk C r₀ cs = rw (rest h) at (s .rows) in
-        let hits : n + number C r (getD cs i (pos 0) ∷ drop (i + 1) cs) ≡ number C r₀ cs = rw (rest h) at (s .hits) in
-        let less : one a ≤ 1 = one-at-most a in
+    on : (b : Bool) → i < length cs → inRound size leads ≡ b → pick b (natAbs leads) k < size → SoFar size m cs (pick b (natAbs leads) k) (n + pick b 1 0) (i + 1)
+    unfolding finalMonth answeredSteps
+    on b h e below =
+        let months : finalMonth size k (getD cs i (pos 0) ∷ drop (i + 1) cs) ≡ finalMonth size m cs = rw (rest h) at (s .months) in
+        let hits : n + answeredSteps size k (getD cs i (pos 0) ∷ drop (i + 1) cs) ≡ answeredSteps size m cs = rw (rest h) at (s .hits) in
         record {
           index = omega arith;
-          few = omega (arith, s .few);
-          rows = ap (λ b. walk C (stand r b) (drop (i + 1) cs)) (sym e) ∙ rows;
-          hits = omega (arith, ap (λ b. one b + number C (stand r b) (drop (i + 1) cs)) e);
+          few = omega (arith, s .few, one-at-most b);
+          in-round = below;
+          months = ap (λ (t : Bool). finalMonth size (pick t (natAbs leads) k) (drop (i + 1) cs)) (sym e) ∙ months;
+          hits = omega (arith, hits, ap (λ (t : Bool). pick t 1 0 + answeredSteps size (pick t (natAbs leads) k) (drop (i + 1) cs)) e);
         }
 
-    pub at-end : length cs ≤ i → (r ≡ walk C r₀ cs) × (n ≡ number C r₀ cs)
-    unfolding walk number
+    pub on-month : (j : ℕ) → i < length cs → Target.Month j ≡ targetOf size leads → SoFar size m cs j (n + 1) (i + 1)
+    on-month j h e =
+        let p = reached (inRound size leads) (natAbs leads) j e in
+        rw (p .1) at (on true h (p .0) (inside size leads (p .0)))
+
+    pub on-outside : i < length cs → Target.Outside ≡ targetOf size leads → SoFar size m cs k n (i + 1)
+    on-outside h e = rw add-zero at (on false h (passed (inRound size leads) (natAbs leads) e) (s .in-round))
+
+    pub at-end : length cs ≤ i → (k ≡ finalMonth size m cs) × (n ≡ answeredSteps size m cs)
+    unfolding finalMonth answeredSteps
     at-end h =
-        let none : drop i cs ≡ [] = ap (λ (k : ℕ). drop k cs) (le-antisymm (s .index) h) ∙ drop-length cs in
-        let hits : n + 0 ≡ number C r₀ cs = rw none at (s .hits) in
-        (rw none at (s .rows), omega arith)
+        let none : drop i cs ≡ [] = ap (λ (j : ℕ). drop j cs) (le-antisymm (s .index) h) ∙ drop-length cs in
+        let hits : n + 0 ≡ answeredSteps size m cs = rw none at (s .hits) in
+        (rw none at (s .months), omega arith)

@@ -1,6 +1,6 @@
 -- What holds of carries and walks, of any calendar of a round that keeps three laws.
 -- Assumes nothing.
-use Prim.Native.Nat.{ℕ, suc, _<_, zero-le}
+use Prim.Native.Nat.{ℕ, suc, _+_, _<_, zero-le}
 use mathlib.Core.Path.{_≡_, refl, sym, ap, _∙_}
 use mathlib.Core.Bool.{Bool, true, false, _&&_}
 use mathlib.Core.List.{List, [], _∷_, _++_}
@@ -12,8 +12,8 @@ use lib.IntN.{ℤ, pos, negsuc, natAbs, negℤ, _+ℤ_, +ℤ-idl, +ℤ-idr, +ℤ
 use lib.Signed.{_≤ℤ_, _<ℤ_}
 use Rattle.reckoning.specs.Search.{pick}
 use Rattle.refusal.specs.declared.Refusal.{Refusal}
-use Rattle.walking.specs.Walk.{Calendar, Answer, answered, refused, inRound, genuine, landing, carry, stand, counted, walk, along, total}
-use Rattle.walking.specs.Paper.{next, last, paper}
+use Rattle.walking.specs.Walk.{Calendar, Answer, answered, refused, inRound, genuine, landing, carry, stand, counted, walk, along, total, number}
+use Rattle.walking.specs.Paper.{next, finalMonth, answeredSteps, paper}
 
 -- z is a month's number: 0 ≤ z < size, in whole numbers
 abbrev pub Inside : ℕ → ℤ → Type 0
@@ -48,14 +48,16 @@ pub record Lawful {R : Type 0} (C : Calendar R) : Type 0 where
 module _ {R : Type 0} (C : Calendar R) where
   -- a carry from month m reaches month n, or ends outside
   record Moved (m : ℕ) (c : ℤ) : Type 0 where
-    pub to : next C m c < C .size
-    pub sum : pos (next C m c) ≡ pos m +ℤ c
-    pub gives : carry C (C .row m) c ≡ answered (C .row (next C m c))
+    pub to : next (C .size) m c < C .size
+    pub sum : pos (next (C .size) m c) ≡ pos m +ℤ c
+    pub gives : carry C (C .row m) c ≡ answered (C .row (next (C .size) m c))
+    pub test : inRound (C .size) (pos m +ℤ c) ≡ true
 
   record Stopped (m : ℕ) (c : ℤ) : Type 0 where
     pub outside : Inside (C .size) (pos m +ℤ c) → ⊥
-    pub stay : next C m c ≡ m
+    pub stay : next (C .size) m c ≡ m
     pub gives : carry C (C .row m) c ≡ refused Refusal.Carry
+    pub test : inRound (C .size) (pos m +ℤ c) ≡ false
 
   -- a walk over two lists is a walk over the first and then one over the second; a refused carry leaves it where it stood
   walk-append : (ps bs : List ℤ) (r : R) → walk C r (ps ++ bs) ≡ walk C (walk C r ps) bs
@@ -90,12 +92,13 @@ module _ {R : Type 0} (C : Calendar R) where
         go : (b : Bool) → inRound (C .size) (pos m +ℤ c) ≡ b → Moved m c ⊎ Stopped m c
         go true e =
             let k = month-of (C .size) (pos m +ℤ c) e in
-            inl (record { to = rw e (k .0); sum = rw e (k .1); gives = carry-row m h c ∙ rw e })
+            inl (record { to = rw e (k .0); sum = rw e (k .1); gives = carry-row m h c ∙ rw e; test = e })
         go false e =
             inr (record {
               outside = λ i. clash (sym e ∙ true-inside (C .size) (pos m +ℤ c) i);
               stay = rw e;
               gives = carry-row m h c ∙ rw e;
+              test = e;
             })
 
     -- REFUSAL 4 is given for every row that is not genuine, and for no genuine row
@@ -109,14 +112,15 @@ module _ {R : Type 0} (C : Calendar R) where
 
     -- a walk from the row of a month, as 01's walk keeps the month alone
     pub record Kept (m : ℕ) (cs : List ℤ) : Type 0 where
-      pub to : last C m cs < C .size
-      pub row : walk C (C .row m) cs ≡ C .row (last C m cs)
+      pub to : finalMonth (C .size) m cs < C .size
+      pub row : walk C (C .row m) cs ≡ C .row (finalMonth (C .size) m cs)
       pub answers : along C (C .row m) cs ≡ paper C m cs
-      pub sum : pos (last C m cs) ≡ pos m +ℤ total C (C .row m) cs
+      pub sum : pos (finalMonth (C .size) m cs) ≡ pos m +ℤ total C (C .row m) cs
+      pub hits : number C (C .row m) cs ≡ answeredSteps (C .size) m cs
 
     pub kept : (cs : List ℤ) (m : ℕ) → m < C .size → Kept m cs
-    unfolding walk along total last paper
-    kept [] m h = record { to = h; row = refl; answers = refl; sum = sym (+ℤ-idr (pos m)) }
+    unfolding walk along total number finalMonth answeredSteps paper
+    kept [] m h = record { to = h; row = refl; answers = refl; sum = sym (+ℤ-idr (pos m)); hits = refl }
     kept (c ∷ cs) m h = ⊎-elim (moved (kept cs)) (stopped (kept cs m h)) (step m h c)
       where
         -- the first answer is where the count leads, and the rest are those from there
@@ -127,14 +131,19 @@ module _ {R : Type 0} (C : Calendar R) where
             ∙ ap (λ (l : List (Answer R)). a ∷ l) e
             ∙ ap (λ (x : Answer R). x ∷ paper C n cs) (sym g ∙ carry-row m h c)
 
+        -- a count is counted where it is answered
+        counts : {a b : Bool} → a ≡ b → pick a 1 0 + answeredSteps (C .size) (next (C .size) m c) cs ≡ pick b 1 0 + answeredSteps (C .size) (next (C .size) m c) cs
+        counts e = ap (λ (t : Bool). pick t 1 0 + answeredSteps (C .size) (next (C .size) m c) cs) e
+
         moved : ((k : ℕ) → k < C .size → Kept k cs) → Moved m c → Kept m (c ∷ cs)
         moved each s =
-            let t = each (next C m c) (s .to) in
+            let t = each (next (C .size) m c) (s .to) in
             record {
               to = t .to;
               row = rw (s .gives) (t .row);
-              answers = each-answer (next C m c) (answered (C .row (next C m c))) (s .gives) (t .answers);
-              sum = rw (s .gives) (t .sum ∙ rw (s .sum) (+ℤ-assoc (pos m) c (total C (C .row (next C m c)) cs)));
+              answers = each-answer (next (C .size) m c) (answered (C .row (next (C .size) m c))) (s .gives) (t .answers);
+              sum = rw (s .gives) (t .sum ∙ rw (s .sum) (+ℤ-assoc (pos m) c (total C (C .row (next (C .size) m c)) cs)));
+              hits = rw (s .gives) (ap (λ (n : ℕ). 1 + n) (t .hits) ∙ counts (sym (s .test)));
             }
 
         stopped : Kept m cs → Stopped m c → Kept m (c ∷ cs)
@@ -142,8 +151,9 @@ module _ {R : Type 0} (C : Calendar R) where
             record {
               to = rw (s .stay) (t .to);
               row = rw (s .gives, s .stay) (t .row);
-              answers = each-answer (next C m c) (refused Refusal.Carry) (s .gives) (rw (s .stay) (t .answers));
+              answers = each-answer (next (C .size) m c) (refused Refusal.Carry) (s .gives) (rw (s .stay) (t .answers));
               sum = rw (s .gives, s .stay) (t .sum ∙ ap (λ z. pos m +ℤ z) (sym (+ℤ-idl (total C (C .row m) cs))));
+              hits = rw (s .gives) (ap (λ (n : ℕ). 0 + n) (t .hits ∙ rw (s .stay)) ∙ counts (sym (s .test)));
             }
 
     -- DEMAND 3, of any genuine row and any list of counts
@@ -172,7 +182,7 @@ module _ {R : Type 0} (C : Calendar R) where
           moved : Moved (C .month r) c → Says
           moved s = (
             λ e. let bad : _≡_ {A = ℕ} 0 1 = cc (sym (same ∙ s .gives) ∙ e) in absurd (omega arith),
-            λ out. absurd (out (rw (← s .sum) (inside-true (C .size) (pos (next C (C .month r) c)) (lt-ltb (next C (C .month r) c) (C .size) (s .to))))),
+            λ out. absurd (out (rw (← s .sum) (inside-true (C .size) (pos (next (C .size) (C .month r) c)) (lt-ltb (next (C .size) (C .month r) c) (C .size) (s .to))))),
           )
 
           stopped : Stopped (C .month r) c → Says
@@ -186,7 +196,7 @@ module _ {R : Type 0} (C : Calendar R) where
 
           moved : Moved (C .month r) c → carry C s (negℤ c) ≡ answered r
           moved t =
-              let n : ℕ = next C (C .month r) c in
+              let n : ℕ = next (C .size) (C .month r) c in
               let q : s ≡ C .row n = cc (here, t .gives) in
               ap (λ x. carry C x (negℤ c)) q
               ∙ carry-row n (t .to) (negℤ c)

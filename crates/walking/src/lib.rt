@@ -1,8 +1,9 @@
-// Months of a round and signed counts: the only code with signed numbers. specs/Walk.antt has the carry and the walk over any row.
+// Months of a round and signed counts, over any size of the round. specs/Walk.antt has the carry and the walk over any row.
 ghost use mathlib.Core.Path.{_≡_};
 ghost use Prim.Native.Nat.{_-_, _<_};
 ghost use lib.IntN.{pos, _+ℤ_, _-ℤ_};
 ghost use Rattle.walking.specs.Signed.{signOf, targetOf};
+ghost use Rattle.walking.specs.Paper.{stepsOf};
 
 // A whole number by its sign: Up(n) is n and Down(n) is -(n + 1), so that every i64 has its side and none overflows.
 pub enum Sign {
@@ -59,4 +60,32 @@ pub fn difference(to: u64, from: u64) -> i64
     } else {
         -1 - ((from - to - 1) as i64)
     }
+}
+
+// The month in which a walk ends that keeps only the month, and how many of the counts were answered.
+pub struct Steps {
+    pub month: u64,
+    pub answered: usize,
+}
+
+// A walk by months: each count leads on from the month that the last answered one reached, at first from the month it starts from.
+pub fn walk_months(size: u64, from: u64, counts: &[i64]) -> Steps
+    requires { ⌜ from < size ⌝ }
+    ensures { λ r. ⌜ r ≡ stepsOf size from (now (counts .entry)) ⌝ }
+{
+    let mut month = from;
+    let mut answered: usize = 0;
+    let mut i = 0;
+    while i < counts.len() {
+        let count = counts[i];
+        i += 1;
+        match reach(size, month, count) {
+            Target::Month(k) => {
+                month = k;
+                answered += 1;
+            }
+            Target::Outside => {}
+        }
+    }
+    Steps { month, answered }
 }

@@ -8,7 +8,7 @@ use Rattle.calendar.specs.declared.MonthRow.{MonthRow}
 use Rattle.calendar.specs.declared.Day.{Day}
 use Rattle.calendar.specs.declared.Date.{Date}
 use Rattle.moon.specs.declared.phases.Phases.{Phases}
-use Rattle.node.specs.declared.Side.{Side}
+use Rattle.node.specs.Sides.{sideNumber}
 use Rattle.node.specs.declared.Nodes.{Nodes}
 use Rattle.anomaly.specs.Amounts.{sizedOf}
 use Rattle.anomaly.specs.declared.Corrections.{Corrections}
@@ -41,12 +41,6 @@ phasesFields p =
     ∷ p .first .day ∷ p .first .remainder .parts ∷ p .first .quarters
     ∷ p .full .day ∷ p .full .remainder .parts ∷ p .full .quarters
     ∷ p .last .day ∷ p .last .remainder .parts ∷ p .last .quarters ∷ []
-
--- the side of the road: 0 at the node, 1 outside, 2 inside
-abbrev pub sideNumber : Side → ℕ
-sideNumber Side.AtNode = 0
-sideNumber Side.Outside = 1
-sideNumber Side.Inside = 2
 
 -- a new moon's distance, side and eclipse, which have no halves, and a full moon's distance and eclipse with their halves
 abbrev pub nodesFields : Nodes → List ℕ

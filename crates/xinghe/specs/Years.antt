@@ -3,8 +3,10 @@
 use mathlib.Core.List.{List, [], _∷_, _++_}
 use Prim.Native.Nat.{ℕ, _*_, _/_}
 use lib.ListN.{length, drop}
+use Rattle.calendar.specs.Heads.{yearHead}
+use Rattle.calendar.specs.declared.HeadAnswer.{HeadAnswer}
 use Rattle.calendar.specs.declared.MonthRow.{MonthRow}
-use Rattle.year_list.specs.Filled.{rowsFrom, fillAnswer, written}
+use Rattle.year_list.specs.Filled.{rowsFrom, answerFor, written}
 use Rattle.year_list.specs.declared.FillAnswer.{FillAnswer}
 use Rattle.xinghe.specs.Fields.{rowFields}
 
@@ -13,9 +15,12 @@ unfoldable pub rowsFields : List MonthRow → List ℕ
 rowsFields [] = []
 rowsFields (row ∷ rows) = rowFields row ++ rowsFields rows
 
--- the answer for a list of that many numbers: it holds a row for each whole eight of them
+-- the answer for a year with that head and a list of that many numbers: it holds a row for each whole eight of them
+abbrev pub answerIn : HeadAnswer → ℕ → FillAnswer
+answerIn head have = answerFor head (have / 8)
+
 abbrev pub fillAnswerIn : ℕ → ℕ → FillAnswer
-fillAnswerIn n have = fillAnswer n (have / 8)
+fillAnswerIn n have = answerIn (yearHead n) have
 
 -- the list with the year's first k rows at its front
 abbrev pub frontFields : ℕ → ℕ → List ℕ → List ℕ

@@ -1,18 +1,14 @@
 // The values of each answer as the numbers that are written to the lent array, in the order of include/xinghe.h.
 use anomaly::Corrections;
-use anomaly::amounts::Amount;
 use calendar::Date;
 use calendar::Day;
 use calendar::MonthRow;
 use calendar::YearHead;
 use moon::phases::Phases;
 use node::Nodes;
-use node::Side;
 use sun::Point;
-use walking::Sign;
 ghost use mathlib.Core.Path.{_≡_};
-ghost use Rattle.anomaly.specs.Amounts.{sizedOf};
-ghost use Rattle.xinghe.specs.Fields.{bitOf, headFields, rowFields, dayFields, dateFields, phasesFields, sideNumber, nodesFields, correctionsFields, pointFields};
+ghost use Rattle.xinghe.specs.Fields.{bitOf, headFields, rowFields, dayFields, dateFields, phasesFields, nodesFields, correctionsFields, pointFields};
 
 // Yes is 1 and no is 0.
 pub fn bit(yes: bool) -> u64
@@ -92,16 +88,6 @@ pub fn phases_fields(phases: Phases) -> [u64; 12]
     ]
 }
 
-fn side_number(side: Side) -> u64
-    ensures { λ r. ⌜ r ≡ sideNumber side ⌝ }
-{
-    match side {
-        Side::AtNode => 0,
-        Side::Outside => 1,
-        Side::Inside => 2,
-    }
-}
-
 pub fn nodes_fields(nodes: Nodes) -> [u64; 15]
     ensures { λ r. ⌜ r ≡ nodesFields nodes ⌝ }
 {
@@ -118,7 +104,7 @@ pub fn nodes_fields(nodes: Nodes) -> [u64; 15]
     let full_from = full_eclipse.distance;
     let full_over = full_from.remainder;
     let side = nodes.side;
-    let side = side_number(side);
+    let side = side.number();
     let new_marked = bit(new_eclipse.marked);
     let full_marked = bit(full_eclipse.marked);
     [
@@ -140,22 +126,6 @@ pub fn nodes_fields(nodes: Nodes) -> [u64; 15]
     ]
 }
 
-// A signed number by its sign and its size.
-pub fn sized(count: i64) -> Amount
-    ensures { λ r. ⌜ r ≡ sizedOf count ⌝ }
-{
-    match walking::sign_of(count) {
-        Sign::Up(n) => Amount {
-            minus: false,
-            size: n,
-        },
-        Sign::Down(n) => Amount {
-            minus: true,
-            size: n + 1,
-        },
-    }
-}
-
 pub fn corrections_fields(corrections: Corrections) -> [u64; 14]
     ensures { λ r. ⌜ r ≡ correctionsFields corrections ⌝ }
 {
@@ -167,8 +137,8 @@ pub fn corrections_fields(corrections: Corrections) -> [u64; 14]
     let full_at = full.anomaly;
     let full_rest = full_at.rest;
     let full_over = full.remainder;
-    let new_by = sized(new.correction);
-    let full_by = sized(full.correction);
+    let new_by = anomaly::amounts::sized_of(new.correction);
+    let full_by = anomaly::amounts::sized_of(full.correction);
     let new_minus = bit(new_by.minus);
     let full_minus = bit(full_by.minus);
     [

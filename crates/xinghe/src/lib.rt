@@ -11,7 +11,8 @@ ghost use Rattle.ephemeris.specs.Jobs.{phasesAt, nodesAt, correctionsAt, cutPoi
 ghost use Rattle.ephemeris.specs.Answers.{phasesNumber, phasesValues, nodesNumber, nodesValues, correctionsNumber, correctionsValues, pointNumber, pointValues};
 ghost use Rattle.xinghe.specs.Fields.{headFields, rowFields, dayFields, dateFields, phasesFields, nodesFields, correctionsFields, pointFields};
 ghost use Rattle.xinghe.specs.Lent.{carryOfFields};
-ghost use Rattle.xinghe.specs.Walks.{walkOfFields, walkNumber, walkValues, totalsFields};
+ghost use Rattle.walk.specs.Walked.{walkNumber, walkValues};
+ghost use Rattle.xinghe.specs.Walks.{walkOfFields, totalsFields};
 ghost use Rattle.xinghe.specs.Years.{fillAnswerIn, filledFields};
 
 pub mod fields;
@@ -125,11 +126,12 @@ pub extern "C" fn xinghe_walk(
 pub extern "C" fn xinghe_fill_year(year: u64, out: &mut [u64]) -> u64
     ensures { λ r. ⌜ (r ≡ fillNumber (fillAnswerIn year (length (now (out .entry))))) × (now (out .exit) ≡ filledFields year (now (out .entry))) ⌝ }
 {
-    let answer = years::answer_in(year, out.len());
+    let head = calendar::heads::year_head(year);
+    let answer = years::answer_in(head, out.len());
     let n = answer.count() as usize;
     let mut i = 0;
     while i < n {
-        years::put(out, 8 * i, years::fields_at(year, i));
+        years::put(out, 8 * i, years::fields_at(year, head, i));
         i += 1;
     }
     answer.number()

@@ -14,23 +14,32 @@ use borrow.Author.Tests.{leb-true}
 use Rattle.reckoning.specs.Search.{pick}
 use Rattle.refusal.specs.declared.Refusal.{Refusal}
 use Rattle.calendar.specs.Heads.{yearHead}
+use Rattle.calendar.specs.Answers.{headValues}
 use Rattle.calendar.specs.declared.HeadAnswer.{HeadAnswer}
 use Rattle.calendar.specs.declared.MonthRow.{MonthRow}
 use Rattle.year_list.specs.Filled.{answerFor, rowAt, rowsFrom, written, toWrite}
 use Rattle.year_list.specs.declared.FillAnswer.{FillAnswer}
 
--- no more rows are written than the list has
-written-of : (k have : ℕ) (b : Bool) → leb k have ≡ b → written (pick b (FillAnswer.Filled k) (FillAnswer.Refused Refusal.List)) ≤ have
-written-of k have true e = leb-true k have e
-written-of k have false e = omega arith
+-- no more rows are written than the list has, nor than the year has months
+written-of : (k have : ℕ) (b : Bool) → leb k have ≡ b → (let n = written (pick b (FillAnswer.Filled k) (FillAnswer.Refused Refusal.List)) in (n ≤ have) × (n ≤ k))
+written-of k have true e = (leb-true k have e, omega arith)
+written-of k have false e = (omega arith, omega arith)
+
+written-for : (a : HeadAnswer) (have : ℕ) → (written (answerFor a have) ≤ have) × (written (answerFor a have) ≤ headValues a .months)
+unfolding answerFor
+written-for (HeadAnswer.Answered head) have = written-of (head .months) have (leb (head .months) have) refl
+written-for (HeadAnswer.Refused e) have = (omega arith, omega arith)
 
 pub within : (n have : ℕ) → toWrite n have ≤ have
-unfolding answerFor
-within n have = go (yearHead n)
-  where
-    go : (a : HeadAnswer) → written (answerFor a have) ≤ have
-    go (HeadAnswer.Answered head) = written-of (head .months) have (leb (head .months) have) refl
-    go (HeadAnswer.Refused e) = omega arith
+within n have = written-for (yearHead n) have .0
+
+pub below-months : (a : HeadAnswer) (have i : ℕ) → i < written (answerFor a have) → i < headValues a .months
+below-months a have i h = omega (arith, written-for a have .1)
+
+-- a head with a place below its month count is answered
+pub has-head : (a : HeadAnswer) (i : ℕ) → i < headValues a .months → HeadAnswer.Answered (headValues a) ≡ a
+has-head (HeadAnswer.Answered head) i h = refl
+has-head (HeadAnswer.Refused e) i h = absurd (omega arith)
 
 abbrev pub front : ℕ → ℕ → List MonthRow → List MonthRow
 front n k rows = rowsFrom n 0 k ++ drop k rows

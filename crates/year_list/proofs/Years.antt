@@ -6,8 +6,8 @@ use Prim.Native.Nat.{ℕ, zero, suc, _+_, _-_, _≤_, _<_}
 use native.Mathlib.Nat.{add-zero, zero-add}
 use native.Mathlib.Omega.{arith}
 use lib.Dec.{leb}
-use lib.ListN.{length, getD, drop, List·getD-append}
-use lib.Seq.{getD-append-add, getD-drop}
+use lib.ListN.{length, getD, take, drop, replicate, List·getD-append}
+use lib.Seq.{getD-append-add, getD-drop, take-at}
 use borrow.Author.Tests.{le-leb}
 use Rattle.reckoning.specs.Search.{pick}
 use Rattle.reckoning.specs.Rule.{monthCount}
@@ -17,20 +17,23 @@ use Rattle.lunisolar.specs.Calendars.{yearAt}
 use Rattle.lunisolar.specs.declared.YearAnswer.{YearAnswer}
 use Rattle.lunisolar.proofs.Laws.{year-at, lunation-at}
 use Rattle.units.specs.Xinghe.{xinghe, rule, roundYears}
-use Rattle.calendar.specs.Heads.{headOf, headAt, yearHead}
-use Rattle.calendar.specs.Rows.{rowOf, rowAt as rowIn}
-use Rattle.calendar.specs.Answers.{rowValues}
+use Rattle.calendar.specs.Heads.{headOf, headFor, yearHead}
+use Rattle.calendar.specs.Rows.{rowOf, rowFor}
+use Rattle.calendar.specs.Answers.{rowValues, zeroRow}
+use Rattle.calendar.specs.declared.YearHead.{YearHead}
+use Rattle.calendar.specs.declared.HeadAnswer.{HeadAnswer}
 use Rattle.calendar.specs.declared.MonthRow.{MonthRow}
+use Rattle.calendar.proofs.Round.{head-months}
 use Rattle.calendar.proofs.Refusals.{isYear}
-use Rattle.year_list.specs.Filled.{answerFor, fillAnswer, rowAt, rowsFrom, toWrite, filled, fillNumber}
+use Rattle.year_list.specs.Filled.{answerFor, fillAnswer, rowAt, rowsFrom, toWrite, filled, yearRows, fillNumber}
 use Rattle.year_list.specs.declared.FillAnswer.{FillAnswer}
 use Rattle.year_list.proofs.Fronts.{rows-length}
 
 -- the numbers: 1 where the round has no such year, then 6 where the list is shorter than the year's month count
 pub fill-numbers : (n have : ℕ) → fillNumber (fillAnswer n have) ≡ pick (isYear n) (pick (leb (monthCount rule (n - 1)) have) 0 6) 1
-unfolding yearAt headAt headOf answerFor
+unfolding yearAt headFor headOf answerFor
 fill-numbers n have =
-    through (λ a. fillNumber (answerFor (headAt a) have)) (isYear n) (YearAnswer.Past (n - 1)) (YearAnswer.Refused Refusal.Year)
+    through (λ a. fillNumber (answerFor (headFor a) have)) (isYear n) (YearAnswer.Past (n - 1)) (YearAnswer.Refused Refusal.Year)
     ∙ ap (λ (x : ℕ). pick (isYear n) x 1)
     (through fillNumber (leb (monthCount rule (n - 1)) have) (FillAnswer.Filled (monthCount rule (n - 1))) (FillAnswer.Refused Refusal.List))
 
@@ -46,12 +49,12 @@ module _ (y : ℕ) (rows : List MonthRow) (d : MonthRow) (in-round : y < roundYe
   count = monthCount rule y
 
   written-is : toWrite (y + 1) (length rows) ≡ count
-  unfolding answerFor headAt headOf
+  unfolding answerFor headFor headOf
   written-is = rw (year-at xinghe y in-round, le-leb count (length rows) room)
 
   -- EACH ROW: the one at place p is the row of that month of the year
   pub each-row : (p : ℕ) → p < count → getD (filled (y + 1) rows) p d ≡ rowOf (rule .before y + p)
-  unfolding rowIn
+  unfolding rowFor
   each-row p h =
       rw written-is
       (List·getD-append (rowsFrom (y + 1) 0 count) (drop count rows) d p (omega (arith, rows-length (y + 1) 0 count))
@@ -73,3 +76,10 @@ module _ (y : ℕ) (rows : List MonthRow) (d : MonthRow) (in-round : y < roundYe
 pub untouched : (n : ℕ) (rows : List MonthRow) (e : Refusal) → fillAnswer n (length rows) ≡ FillAnswer.Refused e → filled n rows ≡ rows
 unfolding rowsFrom
 untouched n rows e h = rw h
+
+-- A YEAR BY VALUE has the year's rows at its front
+pub front-rows : (n : ℕ) (head : YearHead) → HeadAnswer.Answered head ≡ yearHead n → take (head .months) (yearRows n .rows) ≡ rowsFrom n 0 (head .months)
+unfolding answerFor
+front-rows n head e =
+    let w : toWrite n 13 ≡ head .months = rw (← e, le-leb (head .months) 13 (head-months n head e)) in
+    rw w (take-at (rowsFrom n 0 (head .months)) (drop (head .months) (replicate 13 zeroRow)) (head .months) (rows-length n 0 (head .months)))

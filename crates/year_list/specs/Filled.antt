@@ -3,7 +3,7 @@
 use mathlib.Core.List.{List, [], _∷_, _++_}
 use Prim.Native.Nat.{ℕ, zero, suc}
 use lib.Dec.{leb}
-use lib.ListN.{length, drop, replicate}
+use lib.ListN.{length, take, drop, replicate}
 use Rattle.reckoning.specs.Search.{pick}
 use Rattle.refusal.specs.Numbers.{numberOf}
 use Rattle.refusal.specs.declared.Refusal.{Refusal}
@@ -44,12 +44,13 @@ toWrite n have = written (fillAnswer n have)
 abbrev pub filled : ℕ → List MonthRow → List MonthRow
 filled n rows = rowsFrom n 0 (toWrite n (length rows)) ++ drop (toWrite n (length rows)) rows
 
--- thirteen rows of zeros, and a year by value: the answer for a list of thirteen, and that list filled
-abbrev pub blankRows : List MonthRow
-blankRows = replicate 13 zeroRow
+-- a list of rows of which the first `have` are lent
+abbrev pub filledFront : ℕ → ℕ → List MonthRow → List MonthRow
+filledFront have n rows = filled n (take have rows) ++ drop have rows
 
+-- a year by value: its head, and thirteen rows of zeros, filled
 abbrev pub yearRows : ℕ → YearRows
-yearRows n = record { answer = fillAnswer n 13; rows = filled n blankRows }
+yearRows n = record { head = yearHead n; rows = filled n (replicate 13 zeroRow) }
 
 -- the number of an answer, and the count of rows, 0 where it is refused
 abbrev pub fillNumber : FillAnswer → ℕ

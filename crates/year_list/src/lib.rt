@@ -1,10 +1,13 @@
-// A whole year's rows: in a lent list, or by value.
+// A whole year's rows: in a lent list, or by value. The year's head is worked out once and serves all its rows.
 use calendar::HeadAnswer;
 use calendar::MonthRow;
 use refusal::Refusal;
 ghost use mathlib.Core.Path.{_≡_};
+ghost use Prim.Native.Nat.{_≤_, _<_};
 ghost use lib.ListN.{length};
-ghost use Rattle.year_list.specs.Filled.{written, fillNumber, toWrite, rowAt, fillAnswer, filled, blankRows, yearRows};
+ghost use Rattle.calendar.specs.Heads.{yearHead};
+ghost use Rattle.calendar.specs.Answers.{headValues};
+ghost use Rattle.year_list.specs.Filled.{answerFor, written, fillNumber, rowAt, fillAnswer, filled, filledFront, yearRows};
 
 // How many rows were written.
 pub enum FillAnswer {
@@ -33,11 +36,11 @@ impl FillAnswer {
     }
 }
 
-// The answer for a list of that many rows.
-pub fn answer_of(year: u64, have: usize) -> FillAnswer
-    ensures { λ r. ⌜ r ≡ fillAnswer year have ⌝ }
+// The answer for a year with that head and a list of that many rows.
+pub fn answer_for(head: HeadAnswer, have: usize) -> FillAnswer
+    ensures { λ r. ⌜ r ≡ answerFor head have ⌝ }
 {
-    match calendar::heads::year_head(year) {
+    match head {
         HeadAnswer::Answered(head) => {
             if head.months <= have as u64 {
                 FillAnswer::Filled(head.months)
@@ -49,18 +52,25 @@ pub fn answer_of(year: u64, have: usize) -> FillAnswer
     }
 }
 
-// How many rows are written to a list of that many rows: the year's, or none where the job is refused.
-fn to_write(year: u64, have: usize) -> usize
-    ensures { λ r. ⌜ r ≡ toWrite year have ⌝ }
+fn head_at(year: u64) -> HeadAnswer
+    ensures { λ r. ⌜ r ≡ yearHead year ⌝ }
 {
-    answer_of(year, have).count() as usize
+    calendar::heads::year_head(year)
 }
 
-// The row at a place of the year.
-fn row_at(year: u64, place: usize) -> MonthRow
+// How many rows are written to a list of that many rows: the year's, or none where the job is refused.
+fn to_write(head: HeadAnswer, have: usize) -> usize
+    ensures { λ r. ⌜ r ≡ written (answerFor head have) ⌝ }
+{
+    answer_for(head, have).count() as usize
+}
+
+// The row at a place of the year with that head.
+pub fn row_at(year: u64, head: HeadAnswer, place: usize) -> MonthRow
+    requires { ⌜ (head ≡ yearHead year) × (place < headValues head .months) ⌝ }
     ensures { λ r. ⌜ r ≡ rowAt year place ⌝ }
 {
-    calendar::rows::month_row(year, place as u64).values()
+    calendar::rows::row_under(year, head.values(), place as u64)
 }
 
 // The year's rows are stored by place at the front of the lent list, and the rest of it stays. Refused, nothing is written.
@@ -68,42 +78,37 @@ pub fn fill(rows: &mut [MonthRow], year: u64) -> FillAnswer
     ensures { λ r. ⌜ (r ≡ fillAnswer year (length (now (rows .entry)))) × (now (rows .exit) ≡ filled year (now (rows .entry))) ⌝ }
 {
     let have = rows.len();
-    let n = to_write(year, have);
+    let head = head_at(year);
+    let n = to_write(head, have);
     let mut i = 0;
     while i < n {
-        let r = row_at(year, i);
+        let r = row_at(year, head, i);
         rows[i] = r;
         i += 1;
     }
-    answer_of(year, have)
+    answer_for(head, have)
 }
 
-// Thirteen rows of zeros.
-fn blanks() -> [MonthRow; 13]
-    ensures { λ r. ⌜ r ≡ blankRows ⌝ }
+// The rows after `fill` was lent the first `have` of them: whoever calls this needs no lent list.
+pub fn fill_front(rows: [MonthRow; 13], have: usize, year: u64) -> [MonthRow; 13]
+    requires { ⌜ have ≤ 13 ⌝ }
+    ensures { λ r. ⌜ r ≡ filledFront have year rows ⌝ }
 {
-    [MonthRow::zero(); 13]
+    let mut list = rows;
+    fill(&mut list[..have], year);
+    list
 }
 
-// A list of its own is lent to `fill` and handed back by value: whoever calls this needs no lent list.
-pub fn rows_of(year: u64) -> [MonthRow; 13]
-    ensures { λ r. ⌜ r ≡ filled year blankRows ⌝ }
-{
-    let mut rows = blanks();
-    fill(&mut rows, year);
-    rows
-}
-
-// A year by value: how many rows it has, or why it is refused, and its rows by place, with zeros past them.
+// A year by value: its head, or why it is refused, and its rows by place, with zeros past them.
 pub struct YearRows {
-    pub answer: FillAnswer,
+    pub head: HeadAnswer,
     pub rows: [MonthRow; 13],
 }
 
 pub fn year_by_value(year: u64) -> YearRows
     ensures { λ r. ⌜ r ≡ yearRows year ⌝ }
 {
-    let answer = answer_of(year, 13);
-    let rows = rows_of(year);
-    YearRows { answer, rows }
+    let head = calendar::heads::year_head(year);
+    let rows = fill_front([MonthRow::zero(); 13], 13, year);
+    YearRows { head, rows }
 }

@@ -6,18 +6,33 @@ use year_text::reader::Reader;
 enum Input {
     Byte(u8),
     End,
+    // a signal came before a byte did: the read is tried again
+    Interrupted,
+    // any other failure: what the line goes on with isn't known
+    Failed,
 }
+
+// No year has this number; as a year it is refused under 1.
+const NO_YEAR: u64 = 0;
 
 // One byte at a time, so that what follows the line is left for whoever reads next.
 fn next_byte() -> Input {
     let mut byte = [0u8; 1];
-    if libc::read(STDIN_FILENO, &mut byte) < 1 {
+    let got = libc::read(STDIN_FILENO, &mut byte);
+    if 0 < got {
+        return Input::Byte(byte[0]);
+    }
+    if got == 0 {
         return Input::End;
     }
-    Input::Byte(byte[0])
+    if os::errno() == libc::EINTR {
+        return Input::Interrupted;
+    }
+    Input::Failed
 }
 
-// A proved loop has to end, and nothing says that an input does: the loop counts its turns down from a number that no run uses up.
+// Reads until the line ends or is settled. A proved loop has to end, and nothing says that an input does: the loop counts its turns down from
+// a number that no run uses up.
 fn read_year() -> u64 {
     let mut reader = Reader::new();
     let mut turns = u64::MAX;
@@ -25,15 +40,20 @@ fn read_year() -> u64 {
         turns -= 1;
         match next_byte() {
             Input::Byte(byte) => {
-                if byte == 10 {
+                if byte == b'\n' {
                     return reader.year;
                 }
                 reader = reader.feed(byte);
+                if reader.settled() {
+                    return reader.year;
+                }
             }
             Input::End => return reader.year,
+            Input::Interrupted => {}
+            Input::Failed => return NO_YEAR,
         }
     }
-    0
+    NO_YEAR
 }
 
 fn main() {

@@ -1,19 +1,28 @@
--- The printer's text fits its buffer, and a year past every year has the text of any other.
+-- The printer's text fits its buffer; what is no year has the text of any other that is none; and when a line is settled.
 -- Assumes nothing.
-use mathlib.Core.Path.{_≡_, refl, sym}
+use mathlib.Core.Path.{_≡_, refl, sym, _∙_}
+use mathlib.Core.Bool.{Bool, true, false, _&&_}
 use mathlib.Core.Logic.{⊎-elim}
-use mathlib.Core.List.{_++_}
+use mathlib.Core.List.{List, [], _∷_, _++_}
 use Prim.Native.Nat.{ℕ, suc, _+_, _-_, _*_, _≤_, _<_, min}
 use native.Mathlib.Omega.{arith}
+use borrow.Author.Tests.{ltb-true}
 use lib.ListN.{length, length-append}
-use Rattle.reckoning.proofs.Searches.{le-or-lt, beyond}
+use Rattle.reckoning.specs.Search.{pick}
+use Rattle.reckoning.proofs.Searches.{le-or-lt, below, beyond}
 use Rattle.refusal.specs.Numbers.{numberOf}
 use Rattle.lunisolar.specs.Calendars.{yearAt}
 use Rattle.units.specs.Xinghe.{xinghe, roundYears}
-use Rattle.calendar.specs.Heads.{headAt, yearHead}
+use Rattle.calendar.specs.Heads.{headFor, yearHead}
 use Rattle.calendar.specs.declared.HeadAnswer.{HeadAnswer}
+use Rattle.calendar.specs.declared.MonthRow.{MonthRow}
 use Rattle.calendar.proofs.Round.{head-months}
-use Rattle.year_text.specs.Text.{field, headLine, monthLines, refusedWord, textFor, textOf}
+use Rattle.year_list.specs.Filled.{rowsFrom}
+use Rattle.year_list.proofs.Fronts.{rows-length}
+use Rattle.year_text.specs.Decimal.{isDigit, allDigits, valueFrom, value}
+use Rattle.year_text.specs.Lines.{pastRound, notDigits, readOf, isSettled, yearOfLine}
+use Rattle.year_text.specs.declared.reader.Reader.{Reader}
+use Rattle.year_text.specs.Text.{field, headLine, rowLines, refusedWord, textFor, textOf}
 use Rattle.year_text.proofs.Lengths.{field-length, head-length, lines-length}
 
 pub text-fits : (n : ℕ) → length (textOf n) ≤ 2048
@@ -22,13 +31,54 @@ text-fits n = go (yearHead n) refl
   where
     go : (a : HeadAnswer) → a ≡ yearHead n → length (textFor n a) ≤ 2048
     go (HeadAnswer.Answered head) e =
-        omega (arith, length-append (headLine n head) (monthLines n 0 (head .months)), head-length n head, lines-length n 0 (head .months), head-months n head e)
+        let rows : List MonthRow = rowsFrom n 0 (head .months) in
+        omega (arith, length-append (headLine n head) (rowLines rows), head-length n head, lines-length rows, rows-length n 0 (head .months), head-months n head e)
     go (HeadAnswer.Refused x) e = omega (arith, length-append refusedWord (field (numberOf x) 10), field-length (numberOf x) 10)
 
-pub capped-text : (n : ℕ) → textOf (min n 1011601) ≡ textOf n
-unfolding yearAt headAt textFor
+-- NO YEAR has the text of any other that is none
+pub no-year : (n : ℕ) → roundYears < n → textOf n ≡ textOf 0
+unfolding yearAt headFor textFor
+no-year n h = rw (beyond 1 n (suc roundYears) (omega arith), below 1 0 (suc roundYears) (omega arith))
+
+pub capped-text : (n : ℕ) → textOf (min n pastRound) ≡ textOf n
 capped-text n =
     ⊎-elim
-    (λ (h : n ≤ 1011600). let e : min n 1011601 ≡ n = omega arith in rw e)
-    (λ (h : 1011600 < n). let e : min n 1011601 ≡ 1011601 = omega arith in rw (e, beyond 1 1011601 (suc roundYears) (omega arith), beyond 1 n (suc roundYears) (omega arith)))
-    (le-or-lt n 1011600)
+    (λ (h : n ≤ roundYears). let e : min n pastRound ≡ n = omega arith in rw e)
+    (λ (h : roundYears < n). let e : min n pastRound ≡ pastRound = omega arith in rw e (no-year pastRound (omega arith) ∙ sym (no-year n h)))
+    (le-or-lt n roundYears)
+
+-- digits with more behind them mean no less
+value-from : (v : ℕ) (cs : List ℕ) → v ≤ valueFrom v cs
+unfolding valueFrom
+value-from v [] = omega arith
+value-from v (c ∷ cs) = omega (arith, value-from (10 * v + (c - 48)) cs)
+
+value-past : (v : ℕ) (bs cs : List ℕ) → valueFrom v bs ≤ valueFrom v (bs ++ cs)
+unfolding valueFrom
+value-past v [] cs = value-from v cs
+value-past v (b ∷ bs) cs = value-past (10 * v + (b - 48)) bs cs
+
+not-all : (bs cs : List ℕ) → allDigits bs ≡ false → allDigits (bs ++ cs) ≡ false
+unfolding allDigits
+not-all [] cs e = let bad : _≡_ {A = ℕ} 0 1 = cc in absurd (omega arith)
+not-all (b ∷ bs) cs e = go (isDigit b) (not-all bs cs) e
+  where
+    go : (t : Bool) → (allDigits bs ≡ false → allDigits (bs ++ cs) ≡ false) → (t && allDigits bs) ≡ false → (t && allDigits (bs ++ cs)) ≡ false
+    go true after h = after h
+    go false after h = refl
+
+-- SETTLED: once a line can't become a year of the round, its text is the same whatever follows
+pub settled-text : (bs cs : List ℕ) → isSettled (readOf bs) ≡ true → textOf (yearOfLine (bs ++ cs)) ≡ textOf (readOf bs .year)
+unfolding readOf
+settled-text bs cs e = go (allDigits bs) refl e
+  where
+    longer : (t : Bool) → roundYears < value bs → textOf (pick t (value (bs ++ cs)) 0) ≡ textOf 0
+    longer true h = no-year (value (bs ++ cs)) (omega (arith, value-past 0 bs cs))
+    longer false h = refl
+
+    go : (t : Bool) → allDigits bs ≡ t → isSettled (pick t (record { valid = true; year = min (value bs) pastRound }) notDigits) ≡ true →
+        textOf (yearOfLine (bs ++ cs)) ≡ textOf (pick t (record { valid = true; year = min (value bs) pastRound }) notDigits .year)
+    go true q h =
+        let past : roundYears < min (value bs) pastRound = ltb-true roundYears (min (value bs) pastRound) h in
+        longer (allDigits (bs ++ cs)) (omega (arith, past)) ∙ sym (no-year (min (value bs) pastRound) past)
+    go false q h = rw (not-all bs cs q)

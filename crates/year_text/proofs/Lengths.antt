@@ -2,18 +2,16 @@
 -- Assumes nothing.
 use mathlib.Core.Path.{_≡_, sym, ap, _∙_}
 use mathlib.Core.List.{List, [], _∷_, _++_, append-assoc, append-nil}
-use Prim.Native.Nat.{ℕ, zero, suc, _+_, _*_, _≤_}
-use native.Mathlib.Nat.{add-zero}
+use Prim.Native.Nat.{ℕ, _+_, _*_, _≤_, _<_}
 use native.Mathlib.Numerals.{add-one}
 use native.Mathlib.Omega.{arith}
-use lib.ListN.{length, length-append}
+use lib.ListN.{length, take, getD, length-append}
+use lib.Seq.{take-suc}
 use Rattle.units.specs.Units.{sexagenaryOf}
-use Rattle.calendar.specs.Rows.{monthRow}
-use Rattle.calendar.specs.Answers.{rowValues}
 use Rattle.calendar.specs.declared.YearHead.{YearHead}
 use Rattle.calendar.specs.declared.MonthRow.{MonthRow}
 use Rattle.year_text.specs.Decimal.{decimal}
-use Rattle.year_text.specs.Text.{field, named, mark, headLine, placeText, moonText, monthLine, monthLines, yearWord, monthsWord, leapWord}
+use Rattle.year_text.specs.Text.{field, named, mark, headLine, placeText, moonText, monthLine, rowLines, yearWord, monthsWord, leapWord}
 use Rattle.year_text.proofs.Decimals.{at-most-20}
 
 pub field-length : (n end : ℕ) → length (field n end) ≤ 21
@@ -72,22 +70,17 @@ head-length n head =
       named-length leapWord (head .leap),
     )
 
--- one month's line more at the end
-lines-suc : (n p k : ℕ) → monthLines n p (suc k) ≡ monthLines n p k ++ monthLine (rowValues (monthRow n (p + k)))
-unfolding monthLines
-lines-suc n p zero = rw (add-zero p) (append-nil (monthLine (rowValues (monthRow n p))))
-lines-suc n p (suc k) =
-    let e : suc p + k ≡ p + suc k = omega arith in
-    let x : List ℕ = monthLine (rowValues (monthRow n p)) in
-    ap (λ (l : List ℕ). x ++ l) (lines-suc n (suc p) k) ∙ rw e (sym (append-assoc x (monthLines n (suc p) k) (monthLine (rowValues (monthRow n (p + suc k))))))
+-- one row's line more at the end
+lines-end : (rows : List MonthRow) (row : MonthRow) → rowLines (rows ++ row ∷ []) ≡ rowLines rows ++ monthLine row
+unfolding rowLines
+lines-end [] row = append-nil (monthLine row)
+lines-end (r ∷ rows) row = ap (λ (l : List ℕ). monthLine r ++ l) (lines-end rows row) ∙ sym (append-assoc (monthLine r) (rowLines rows) (monthLine row))
 
-pub lines-more : (n p k : ℕ) → monthLines n p (k + 1) ≡ monthLines n p k ++ monthLine (rowValues (monthRow n (p + k)))
-lines-more n p k = rw (add-one k) (lines-suc n p k)
+pub lines-more : (rows : List MonthRow) (i : ℕ) (d : MonthRow) → i < length rows → rowLines (take (i + 1) rows) ≡ rowLines (take i rows) ++ monthLine (getD rows i d)
+lines-more rows i d h = rw (add-one i, take-suc rows i d h) (lines-end (take i rows) (getD rows i d))
 
--- at most 107 bytes a month
-pub lines-length : (n p k : ℕ) → length (monthLines n p k) ≤ 107 * k
-unfolding monthLines
-lines-length n p zero = omega arith
-lines-length n p (suc k) =
-    let x : List ℕ = monthLine (rowValues (monthRow n p)) in
-    omega (arith, length-append x (monthLines n (suc p) k), month-length (rowValues (monthRow n p)), lines-length n (suc p) k)
+-- at most 107 bytes a row
+pub lines-length : (rows : List MonthRow) → length (rowLines rows) ≤ 107 * length rows
+unfolding rowLines
+lines-length [] = omega arith
+lines-length (row ∷ rows) = omega (arith, length-append (monthLine row) (rowLines rows), month-length row, lines-length rows)

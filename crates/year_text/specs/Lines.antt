@@ -1,11 +1,12 @@
 -- The line that the year printer reads (01, "Cases at the edges").
 -- Assumes nothing.
-use mathlib.Core.Bool.{Bool, true, false}
+use mathlib.Core.Bool.{Bool, true, false, not, _||_}
 use mathlib.Core.List.{List, [], _∷_}
-use Prim.Native.Nat.{ℕ, min}
-use lib.Dec.{eqb}
+use Prim.Native.Nat.{ℕ, suc, _+_, _-_, _*_, min}
+use lib.Dec.{eqb, ltb}
 use Rattle.reckoning.specs.Search.{pick}
-use Rattle.year_text.specs.Decimal.{allDigits, value}
+use Rattle.units.specs.Xinghe.{roundYears}
+use Rattle.year_text.specs.Decimal.{isDigit, allDigits, value}
 use Rattle.year_text.specs.declared.reader.Reader.{Reader}
 
 -- the line ends at the first newline byte or at the end of the input
@@ -17,9 +18,21 @@ lineOf (b ∷ bs) = pick (eqb b 10) [] (b ∷ lineOf bs)
 abbrev pub yearOfLine : List ℕ → ℕ
 yearOfLine bs = pick (allDigits bs) (value bs) 0
 
--- the reader's state after the bytes of a line so far: whether all were digits, and their number, or 1,011,601, past every year, where it is more
+-- one past every year of the round, which stands for all that are past it
+abbrev pub pastRound : ℕ
+pastRound = suc roundYears
+
+-- the reader's state after the bytes of a line so far: whether all were digits, and their number, or one past every year where it is more
 abbrev pub notDigits : Reader
 notDigits = record { valid = false; year = 0 }
 
 unfoldable pub readOf : List ℕ → Reader
-readOf bs = pick (allDigits bs) (record { valid = true; year = min (value bs) 1011601 }) notDigits
+readOf bs = pick (allDigits bs) (record { valid = true; year = min (value bs) pastRound }) notDigits
+
+-- a state after one byte more
+unfoldable pub fed : Reader → ℕ → Reader
+fed s b = pick (s .valid) (pick (isDigit b) (record { valid = true; year = min (10 * s .year + (b - 48)) pastRound }) notDigits) s
+
+-- the line so far can't become a year of the round, whatever follows: it has a byte that is no digit, or its number is past the round
+abbrev pub isSettled : Reader → Bool
+isSettled s = not (s .valid) || ltb roundYears (s .year)

@@ -3,16 +3,15 @@
 -- Assumes nothing.
 use mathlib.Core.Bool.{Bool, true, false}
 use mathlib.Core.List.{List, [], _∷_, _++_}
-use Prim.Native.Nat.{ℕ, zero, suc}
+use Prim.Native.Nat.{ℕ}
 use Rattle.reckoning.specs.Search.{pick}
 use Rattle.refusal.specs.Numbers.{numberOf}
 use Rattle.units.specs.Units.{sexagenaryOf}
 use Rattle.calendar.specs.Heads.{yearHead}
-use Rattle.calendar.specs.Rows.{monthRow}
-use Rattle.calendar.specs.Answers.{rowValues}
 use Rattle.calendar.specs.declared.YearHead.{YearHead}
 use Rattle.calendar.specs.declared.HeadAnswer.{HeadAnswer}
 use Rattle.calendar.specs.declared.MonthRow.{MonthRow}
+use Rattle.year_list.specs.Filled.{rowsFrom}
 use Rattle.year_text.specs.Decimal.{decimal}
 
 -- `year `, ` months `, ` leap `, `refused `
@@ -52,13 +51,14 @@ moonText row = field (sexagenaryOf (row .day)) 32 ++ field (row .remainder .part
 unfoldable pub monthLine : MonthRow → List ℕ
 monthLine row = placeText row ++ moonText row
 
--- the lines of k months, by place from p on
-unfoldable pub monthLines : ℕ → ℕ → ℕ → List ℕ
-monthLines n p zero = []
-monthLines n p (suc k) = monthLine (rowValues (monthRow n p)) ++ monthLines n (suc p) k
+-- the lines of rows, one after the other
+unfoldable pub rowLines : List MonthRow → List ℕ
+rowLines [] = []
+rowLines (row ∷ rows) = monthLine row ++ rowLines rows
 
+-- a year's head line and the lines of its rows, by place
 unfoldable pub textFor : ℕ → HeadAnswer → List ℕ
-textFor n (HeadAnswer.Answered head) = headLine n head ++ monthLines n 0 (head .months)
+textFor n (HeadAnswer.Answered head) = headLine n head ++ rowLines (rowsFrom n 0 (head .months))
 textFor n (HeadAnswer.Refused e) = refusedWord ++ field (numberOf e) 10
 
 abbrev pub textOf : ℕ → List ℕ

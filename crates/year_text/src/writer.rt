@@ -8,8 +8,8 @@ ghost use Prim.Native.Nat.{_+_, _*_, _≤_, _<_};
 ghost use lib.ListN.{length, take};
 ghost use Rattle.year_text.specs.Decimal.{decimal};
 ghost use Rattle.year_text.specs.Lines.{lineOf, yearOfLine};
-ghost use Rattle.year_text.specs.Written.{Wrote};
-ghost use Rattle.year_text.specs.Text.{field, named, mark, headLine, placeText, moonText, monthLine, monthLines, textOf};
+ghost use Rattle.year_text.specs.Written.{Wrote, afterText};
+ghost use Rattle.year_text.specs.Text.{field, named, mark, headLine, placeText, moonText, monthLine, rowLines, textOf};
 
 fn put(out: &mut [u8], at: usize, byte: u8) -> usize
     requires { ⌜ at < length (now out) ⌝ }
@@ -109,29 +109,32 @@ fn put_row(out: &mut [u8], at: usize, row: MonthRow) -> usize
     put_moon(out, after, row)
 }
 
-// The lines of a year's months, by place.
-fn put_months(out: &mut [u8], at: usize, year: u64, months: u64) -> usize
-    requires { ⌜ at + 107 * months ≤ length (now out) ⌝ }
-    ensures { λ r. ⌜ Wrote (now (out .entry)) (now (out .exit)) at r (monthLines year 0 months) ⌝ }
+// The lines of the first so many rows.
+fn put_rows(out: &mut [u8], at: usize, rows: [MonthRow; 13], count: usize) -> usize
+    requires { ⌜ (count ≤ 13) × (at + 107 * count ≤ length (now out)) ⌝ }
+    ensures { λ r. ⌜ Wrote (now (out .entry)) (now (out .exit)) at r (rowLines (take count rows)) ⌝ }
 {
     let mut end = at;
-    let mut place = 0;
-    while place < months {
-        let row = calendar::rows::month_row(year, place).values();
+    let mut i = 0;
+    while i < count {
+        let row = rows[i];
         end = put_row(out, end, row);
-        place += 1;
+        i += 1;
     }
     end
 }
 
 // A year in the printer's text, or its refusal, at the front of the buffer; the answer is its length.
 pub fn render(year: u64, out: &mut [u8; 2048]) -> usize
-    ensures { λ r. ⌜ (r ≡ length (textOf year)) × (take r (now (out .exit)) ≡ textOf year) ⌝ }
+    ensures { λ r. ⌜ (r ≡ length (textOf year)) × (now (out .exit) ≡ afterText (textOf year) (now (out .entry))) ⌝ }
 {
-    match calendar::heads::year_head(year) {
+    let listed = year_list::year_by_value(year);
+    let head = listed.head;
+    let rows = listed.rows;
+    match head {
         HeadAnswer::Answered(head) => {
             let end = put_head(out, 0, year, head);
-            put_months(out, end, year, head.months)
+            put_rows(out, end, rows, head.months as usize)
         }
         HeadAnswer::Refused(e) => {
             let end = put_word(out, 0, b"refused ");
@@ -142,7 +145,7 @@ pub fn render(year: u64, out: &mut [u8; 2048]) -> usize
 
 // What the printer answers to an input.
 pub fn answer(input: &[u8], out: &mut [u8; 2048]) -> usize
-    ensures { λ r. ⌜ (r ≡ length (textOf (yearOfLine (lineOf (now (input .entry)))))) × (take r (now (out .exit)) ≡ textOf (yearOfLine (lineOf (now (input .entry))))) ⌝ }
+    ensures { λ r. ⌜ (r ≡ length (textOf (yearOfLine (lineOf (now (input .entry)))))) × (now (out .exit) ≡ afterText (textOf (yearOfLine (lineOf (now (input .entry))))) (now (out .entry))) ⌝ }
 {
     render(crate::reader::year_asked(input), out)
 }

@@ -17,7 +17,7 @@ carry-requires : tie.Need-carry-requires
 carry-requires c κs = search needs
 
 add-t5 : tie.Need-add-t5
-add-t5 c = omega (arith, ap (λ (x : DayCarry). x .days) (c .before .before .carry .ensures))
+add-t5 c = omega (arith, ap (λ (x : DayCarry). x .whole) (c .before .before .carry .ensures))
 
 returns : tie.Need-returns
 unfolding anomalyAt

@@ -11,7 +11,7 @@ carry-requires : tie.Need-carry-requires
 carry-requires c κs = search needs
 
 add-t11 : tie.Need-add-t11
-add-t11 c = omega (arith, ap (λ (x : DayCarry). x .days) (c .before .before .carry .ensures), c .before .before .before .before .pre .day-bound)
+add-t11 c = omega (arith, ap (λ (x : DayCarry). x .whole) (c .before .before .carry .ensures), c .before .before .before .before .pre .day-bound)
 
 returns : tie.Need-returns
 unfolding moved
@@ -26,7 +26,7 @@ carry-requires-2 : tie.Need-carry-requires-2
 carry-requires-2 c κs = search needs
 
 add-t12 : tie.Need-add-t12
-add-t12 c = omega (arith, ap (λ (x : DayCarry). x .days) (c .before .before .carry2 .ensures), c .before .before .before .before .pre .day-bound)
+add-t12 c = omega (arith, ap (λ (x : DayCarry). x .whole) (c .before .before .carry2 .ensures), c .before .before .before .before .pre .day-bound)
 
 sub-t13 : tie.Need-sub-t13
 sub-t13 c =

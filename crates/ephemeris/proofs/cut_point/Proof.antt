@@ -4,7 +4,7 @@ use Rattle.lunisolar.specs.Calendars.{yearAt}
 use Rattle.lunisolar.specs.declared.YearAnswer.{YearAnswer}
 use Rattle.lunisolar.proofs.Laws.{year-found}
 use Rattle.units.specs.Xinghe.{xinghe}
-use Rattle.ephemeris.specs.Jobs.{pointAt}
+use Rattle.ephemeris.specs.Jobs.{pointFor}
 use borrow.Author.Needs.{needs}
 use Rattle.ephemeris.proofs.cut_point.Statement.{statement}
 use Rattle.ephemeris.proofs.cut_point.Tie as tie
@@ -26,11 +26,11 @@ enum-known-e : tie.Need-enum-known-e
 enum-known-e c = search needs
 
 returns : tie.Need-returns
-unfolding pointAt
+unfolding pointFor
 returns c = rw (← is-past (c .before .before), c .point-in .ensures)
 
 returns-2 : tie.Need-returns-2
-unfolding pointAt
+unfolding pointFor
 returns-2 c = rw (← c .before .before .before .year-at .ensures, c .before .e .given .1)
 
 pub cut-point-spec : {M : Type 1} → statement M

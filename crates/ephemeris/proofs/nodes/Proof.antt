@@ -4,7 +4,7 @@ use Rattle.lunisolar.specs.Calendars.{lunationAt}
 use Rattle.lunisolar.specs.declared.LunationAnswer.{LunationAnswer}
 use Rattle.units.specs.Xinghe.{xinghe}
 use Rattle.calendar.proofs.Round.{lunation-in-round}
-use Rattle.ephemeris.specs.Jobs.{nodesIn}
+use Rattle.ephemeris.specs.Jobs.{nodesFor}
 use borrow.Author.Needs.{needs}
 use Rattle.ephemeris.proofs.nodes.Statement.{statement}
 use Rattle.ephemeris.proofs.nodes.Tie as tie
@@ -28,11 +28,11 @@ enum-known-e : tie.Need-enum-known-e
 enum-known-e c = search needs
 
 returns : tie.Need-returns
-unfolding nodesIn
+unfolding nodesFor
 returns c = rw (← is-lunation (c .before .before), c .nodes-of .ensures)
 
 returns-2 : tie.Need-returns-2
-unfolding nodesIn
+unfolding nodesFor
 returns-2 c = rw (← c .before .before .before .lunation-at .ensures, c .before .e .given .1)
 
 pub nodes-spec : {M : Type 1} → statement M

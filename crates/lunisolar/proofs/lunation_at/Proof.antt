@@ -2,7 +2,7 @@ use native.Mathlib.Omega.{arith}
 use mathlib.Core.Path.{_≡_, sym, _∙_}
 use borrow.Author.Tests.{lt-ltb, le-ltb}
 use Rattle.reckoning.specs.Rule.{monthCount}
-use Rattle.lunisolar.specs.Calendars.{ruleOf, yearAt, lunationIn}
+use Rattle.lunisolar.specs.Calendars.{ruleOf, yearAt, lunationFor}
 use Rattle.lunisolar.specs.declared.YearAnswer.{YearAnswer}
 use Rattle.lunisolar.proofs.Laws.{YearFound, year-found, before-bound, count-bound}
 use borrow.Author.Needs.{needs}
@@ -38,21 +38,21 @@ enum-known-e : tie.Need-enum-known-e
 enum-known-e c = search needs
 
 returns : tie.Need-returns
-unfolding lunationIn
+unfolding lunationFor
 returns c =
     let a = c .before .before .before .before in
     let s = a .before .before .before .args in
     rw (← is-past a, lt-ltb (s .place) (monthCount (ruleOf (s .k)) (a .y .given .0 .0)) (omega arith), c .months-before .ensures)
 
 returns-2 : tie.Need-returns-2
-unfolding lunationIn
+unfolding lunationFor
 returns-2 c =
     let a = c .before .before .before in
     let s = a .before .before .before .args in
     rw (← is-past a, le-ltb (s .place) (monthCount (ruleOf (s .k)) (a .y .given .0 .0)) (omega arith))
 
 returns-3 : tie.Need-returns-3
-unfolding lunationIn
+unfolding lunationFor
 returns-3 c = rw (← c .before .before .before .year-at .ensures, c .before .e .given .1)
 
 pub lunation-at-spec : {M : Type 1} → statement M

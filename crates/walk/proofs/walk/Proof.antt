@@ -1,123 +1,74 @@
--- What is left of the walk, from where the loop stands, is the whole walk; and the sum is how far it has come.
-use Prim.Native.Nat.{ℕ, _+_, _-_}
+-- The month alone is moved; demand 3 says that this is the walk that carries the row.
+use Prim.Native.Nat.{ℕ, _<_}
 use mathlib.Core.Path.{_≡_, sym, ap, _∙_}
+use mathlib.Core.Bool.{true}
 use native.Mathlib.Omega.{arith}
-use native.Mathlib.Nat.{add-zero}
 use borrow.Author.Needs.{needs}
-use lib.ListN.{length, getD}
 use lib.IntN.{pos, _-ℤ_}
 use mir.Syntax.{w64}
 use mir.Val.{toZ, ofZ}
-use mir.Facts.{toZ-ofZ}
-use Rattle.walking.specs.Walk.{Answer, carry, stand, one, walk, total, number}
-use Rattle.walking.proofs.Program.{SoFar, at-start, on, at-end}
-use Rattle.walking.proofs.Sums.{Far, far}
-use Rattle.calendar.specs.Carries.{months, shown}
+use Rattle.walking.specs.Walk.{genuine, walk, total, number}
+use Rattle.walking.specs.Paper.{stepsOf}
+use Rattle.walking.specs.declared.Steps.{Steps}
+use Rattle.walking.proofs.Program.{own-month}
+use Rattle.walking.proofs.Theorem.{demand-3}
+use Rattle.walking.proofs.Sums.{sum-is}
+use Rattle.units.specs.Xinghe.{roundMonths}
+use Rattle.calendar.specs.Carries.{months}
 use Rattle.calendar.specs.declared.MonthRow.{MonthRow}
-use Rattle.calendar.proofs.Lawful.{lawful, shown-answered, shown-refused}
+use Rattle.calendar.proofs.Lawful.{lawful}
 use Rattle.walk.proofs.walk.Statement.{statement}
 use Rattle.walk.proofs.walk.Tie as tie
 
-abbrev Inv-loop : tie.InvT-loop
-Inv-loop start counts row₀ n₀ i₀ row n i = SoFar months start counts row n i
+mine : (a : tie.Then1) → genuine months (a .before .before .args .start) ≡ true
+mine a = sym (a .before .is-genuine .ensures) ∙ a .if1 .taken
 
-abbrev μ-loop : tie.MeasureT-loop
-μ-loop start counts row₀ n₀ i₀ row n i = length counts - i
+-- where the walk by months ends is inside the round
+inside : (a : tie.After-walk-months) → a .walk-months .result .month < roundMonths
+inside a =
+    let x = a .before .before .before .args in
+    rw (a .walk-months .ensures) (demand-3 months lawful (x .start) (mine (a .before)) (x .counts .now) .in-round)
 
--- what the carry of this turn answers. The code holds the count as bits
-abbrev got : tie.After-carry Inv-loop μ-loop → Answer MonthRow
-got a = let l = a .before .before .before in carry months (l .loop .row) (getD (l .before .args .counts .now) (l .loop .i) (pos 0))
+is-genuine-requires : tie.Need-is-genuine-requires
+is-genuine-requires c κs = search needs
 
-read : (a : tie.After-carry Inv-loop μ-loop) → a .carry .result ≡ shown (got a)
-read a = rw (toZ-ofZ {w = w64} (record { sfits = a .before .count .given })) at (a .carry .ensures)
+walk-months-requires : tie.Need-walk-months-requires
+walk-months-requires c κs = own-month months (c .before .before .args .start) (mine c)
 
--- one turn more
-turn : (a : tie.After-carry Inv-loop μ-loop) (b : Answer MonthRow) → got a ≡ b →
-    (let l = a .before .before .before in SoFar months (l .before .args .start) (l .before .args .counts .now) (stand (l .loop .row) b) (l .loop .answered + one b) (l .loop .i + 1))
-turn a b e =
-    let l = a .before .before .before in
-    on months (l .before .args .start) (l .before .args .counts .now) (l .loop .row) (l .loop .answered) (l .loop .i) (l .loop .inv) b (a .before .before .loop-test .taken) e
+row-of-requires : tie.Need-row-of-requires
+row-of-requires c κs = inside c
 
-loop-holds : tie.Need-loop-holds Inv-loop μ-loop
-loop-holds c = at-start months (c .args .start) (c .args .counts .now)
-
-mul-count : tie.Need-mul-count Inv-loop μ-loop
-mul-count c = search needs
-
-shared-slice-copy-out-count : tie.Need-shared-slice-copy-out-count Inv-loop μ-loop
-shared-slice-copy-out-count c = search needs
-
-add-i : tie.Need-add-i Inv-loop μ-loop
-add-i c = search needs
-
-carry-requires : tie.Need-carry-requires Inv-loop μ-loop
-carry-requires c κs = search needs
-
-enum-known-next : tie.Need-enum-known-next Inv-loop μ-loop
-enum-known-next c = search needs
-
-add-answered : tie.Need-add-answered Inv-loop μ-loop
-add-answered c = search needs
-
-loop-less : tie.Need-loop-less Inv-loop μ-loop
-loop-less c = search needs
-
-loop-again : tie.Need-loop-again Inv-loop μ-loop
-loop-again c =
-    let a = c .before .before .before in
-    turn a _ (shown-answered (got a) _ (sym (c .before .next .given .1) ∙ read a))
-
-enum-told : tie.Need-enum-told Inv-loop μ-loop
-enum-told c = search needs
-
-loop-less-2 : tie.Need-loop-less-2 Inv-loop μ-loop
-loop-less-2 c = search needs
-
-loop-again-2 : tie.Need-loop-again-2 Inv-loop μ-loop
-loop-again-2 c =
-    let a = c .before .before in
-    rw add-zero at (turn a _ (shown-refused (got a) (c .enum-told .given .0 .0) (sym (c .enum-told .given .1) ∙ read a)))
-
--- past the last count
-done : (a : tie.After-loop Inv-loop μ-loop) →
-    (let x = a .before .before .args in (a .before .loop .row ≡ walk months (x .start) (x .counts .now)) × (a .before .loop .answered ≡ number months (x .start) (x .counts .now)))
-done a =
-    let l = a .before in
-    at-end months (l .before .args .start) (l .before .args .counts .now) (l .loop .row) (l .loop .answered) (l .loop .i) (l .loop .inv) (a .loop-test .left)
-
-difference-requires : tie.Need-difference-requires Inv-loop μ-loop
+difference-requires : tie.Need-difference-requires
 difference-requires c κs =
-    let x = c .before .before .args in
-    let f : Far months (x .start) (x .counts .now) = far months lawful (x .start) (x .counts .now) in
-    rw (done c .0) (omega (arith, f .up), omega (arith, f .down))
+    let a = c .before in
+    let b : a .before .before .before .args .start .lunation < roundMonths = own-month months (a .before .before .before .args .start) (mine (a .before)) in
+    (omega (arith, inside a), omega (arith, b))
 
-returns : tie.Need-returns Inv-loop μ-loop
+returns : tie.Need-returns
 returns c =
-    let x = c .before .before .before .args in
-    let held : toZ w64 (ofZ w64 (c .difference .result)) ≡ c .difference .result = search needs in
+    let a = c .before .before in
+    let x = a .before .before .before .args in
+    let g = mine (a .before) in
+    let w = demand-3 months lawful (x .start) g (x .counts .now) in
+    let end : a .walk-months .result ≡ stepsOf roundMonths (x .start .lunation) (x .counts .now) = a .walk-months .ensures in
+    let month = ap (λ (s : Steps). s .month) end in
+    let row : c .before .row-of .result ≡ walk months (x .start) (x .counts .now) = c .before .row-of .ensures ∙ ap (months .row) month ∙ sym (w .row) in
     let sum : c .difference .result ≡ total months (x .start) (x .counts .now) =
-    c .difference .ensures
-    ∙ ap (λ (r : MonthRow). pos (r .lunation) -ℤ pos (x .start .lunation)) (done (c .before) .0)
-    ∙ sym (far months lawful (x .start) (x .counts .now) .sum) in
-    rw (held, sum, done (c .before) .0, done (c .before) .1)
+    c .difference .ensures ∙ ap (λ (m : ℕ). pos m -ℤ pos (x .start .lunation)) month ∙ sym (sum-is months lawful (x .start) g (x .counts .now)) in
+    let held : toZ w64 (ofZ w64 (c .difference .result)) ≡ c .difference .result = search needs in
+    let hits : a .walk-months .result .answered ≡ number months (x .start) (x .counts .now) = ap (λ (s : Steps). s .answered) end ∙ sym (w .hits) in
+    rw (g, held, sum, row, hits)
+
+returns-2 : tie.Need-returns-2
+returns-2 c = rw (sym (c .before .is-genuine .ensures) ∙ c .if1 .left)
 
 pub walk-spec : {M : Type 1} → statement M
 walk-spec =
     tie.close
     (tie.spec
-    Inv-loop
-    μ-loop
-    loop-holds
-    mul-count
-    shared-slice-copy-out-count
-    add-i
-    carry-requires
-    enum-known-next
-    add-answered
-    loop-less
-    loop-again
-    enum-told
-    loop-less-2
-    loop-again-2
+    is-genuine-requires
+    walk-months-requires
+    row-of-requires
     difference-requires
-    returns)
+    returns
+    returns-2)

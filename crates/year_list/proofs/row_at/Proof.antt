@@ -1,15 +1,20 @@
+use mathlib.Core.Path.{_≡_, ap, _∙_}
+use Rattle.calendar.specs.Answers.{rowValues}
+use Rattle.year_list.proofs.Fronts.{has-head}
 use borrow.Author.Needs.{needs}
 use Rattle.year_list.proofs.row_at.Statement.{statement}
 use Rattle.year_list.proofs.row_at.Tie as tie
 
-month-row-requires : tie.Need-month-row-requires
-month-row-requires c κs = search needs
-
 values-requires : tie.Need-values-requires
 values-requires c κs = search needs
 
+row-under-requires : tie.Need-row-under-requires
+row-under-requires c κs =
+    let a = c .before in
+    rw (c .values .ensures) (has-head (a .args .head) (a .args .place) (a .pre .1) ∙ a .pre .0, a .pre .1)
+
 returns : tie.Need-returns
-returns c = rw (c .values .ensures, c .before .month-row .ensures)
+returns c = ap rowValues (c .row-under .ensures)
 
 pub row-at-spec : {M : Type 1} → statement M
-row-at-spec = tie.close (tie.spec month-row-requires values-requires returns)
+row-at-spec = tie.close (tie.spec values-requires row-under-requires returns)

@@ -1,6 +1,6 @@
-use mathlib.Core.Path.{_∙_, ap, sym}
 use native.Mathlib.Omega.{arith}
-use lib.ListN.{length, length-take}
+use mathlib.Core.Path.{ap}
+use lib.ListN.{length, length-take, length-append}
 use borrow.Author.Needs.{needs}
 use Rattle.year_printer.proofs.main.Statement.{statement}
 use Rattle.year_printer.proofs.main.Tie as tie
@@ -12,10 +12,12 @@ render-requires : tie.Need-render-requires
 render-requires c κs = search needs
 
 array-share-prefix-out : tie.Need-array-share-prefix-out
-array-share-prefix-out c = omega (arith, c .render .ensures .0 ∙ ap length (sym (c .render .ensures .1)), length-take (c .render .result) (c .render .last .1 .0))
+array-share-prefix-out c = omega (arith, c .render .ensures .0, rw length-append at (ap length (c .render .ensures .1)))
 
 slice-aggregate-write-all : tie.Need-slice-aggregate-write-all
-slice-aggregate-write-all c = c .before .render .ensures .0 ∙ ap length (sym (c .before .render .ensures .1))
+slice-aggregate-write-all c =
+    let r = c .before .render in
+    omega (arith, length-take (r .result) (r .last .1 .0), r .ensures .0, rw length-append at (ap length (r .ensures .1)))
 
 write-all-requires : tie.Need-write-all-requires
 write-all-requires c κs = search needs

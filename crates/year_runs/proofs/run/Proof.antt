@@ -1,6 +1,6 @@
-use mathlib.Core.Path.{_∙_, ap, sym}
 use native.Mathlib.Omega.{arith}
-use lib.ListN.{length, length-take}
+use mathlib.Core.Path.{ap}
+use lib.ListN.{length, length-take, length-append}
 use borrow.Author.Needs.{needs}
 use Rattle.year_runs.proofs.run.Statement.{statement}
 use Rattle.year_runs.proofs.run.Tie as tie
@@ -9,10 +9,12 @@ answer-requires : tie.Need-answer-requires
 answer-requires c κs = search needs
 
 array-share-prefix-out : tie.Need-array-share-prefix-out
-array-share-prefix-out c = omega (arith, c .answer .ensures .0 ∙ ap length (sym (c .answer .ensures .1)), length-take (c .answer .result) (c .answer .last .1 .0))
+array-share-prefix-out c = omega (arith, c .answer .ensures .0, rw length-append at (ap length (c .answer .ensures .1)))
 
 slice-aggregate-write-all : tie.Need-slice-aggregate-write-all
-slice-aggregate-write-all c = c .before .answer .ensures .0 ∙ ap length (sym (c .before .answer .ensures .1))
+slice-aggregate-write-all c =
+    let r = c .before .answer in
+    omega (arith, length-take (r .result) (r .last .1 .0), r .ensures .0, rw length-append at (ap length (r .ensures .1)))
 
 write-all-requires : tie.Need-write-all-requires
 write-all-requires c κs = search needs

@@ -29,10 +29,7 @@ sum-of-requires : tie.Need-sum-of-requires
 sum-of-requires c κs = search needs
 
 sized-of-requires : tie.Need-sized-of-requires
-sized-of-requires c κs =
-    let a = c .before in
-    let k = a .args .day - 1 in
-    rw (c .sum-of .ensures, sum-back (a .args .rates) (a .pre .0) k (omega arith)) (omega (arith, sum-small (a .args .rates) (a .pre .0) k))
+sized-of-requires c κs = search needs
 
 mul-t5 : tie.Need-mul-t5
 mul-t5 c = omega (arith, bound (c .before .before .before))

@@ -6,7 +6,7 @@ use lib.ListN.{getD}
 use Rattle.units.specs.Xinghe.{N}
 use Rattle.anomaly.specs.Amounts.{sizedOf, correctionOn}
 use Rattle.anomaly.specs.declared.amounts.Amount.{Amount}
-use Rattle.anomaly.proofs.Sums.{rate-small, rate-back, amount-small, product-small}
+use Rattle.anomaly.proofs.Sums.{rate-back, amount-small, product-small}
 use borrow.Author.Needs.{needs}
 use Rattle.anomaly.proofs.amounts.correction_on.Statement.{statement}
 use Rattle.anomaly.proofs.amounts.correction_on.Tie as tie
@@ -30,9 +30,7 @@ array-copy-out-sized-of : tie.Need-array-copy-out-sized-of
 array-copy-out-sized-of c = search needs
 
 sized-of-requires : tie.Need-sized-of-requires
-sized-of-requires c κs =
-    let a = c .before .before in
-    rw (rate-back (a .args .t1) (a .pre .rates-small) (a .args .day - 1)) (omega (arith, rate-small (a .args .t1) (a .pre .rates-small) (a .args .day - 1)))
+sized-of-requires c κs = search needs
 
 mul-change : tie.Need-mul-change
 mul-change c =

@@ -1,7 +1,7 @@
 use Prim.Native.Nat.{_-_}
 use mathlib.Core.Path.{_≡_, _∙_, sym}
 use Rattle.calendar.specs.Rows.{monthRow}
-use Rattle.calendar.specs.Dates.{dayAt}
+use Rattle.calendar.specs.Dates.{dayFor}
 use Rattle.calendar.specs.declared.RowAnswer.{RowAnswer}
 use Rattle.calendar.proofs.Round.{row-found, row-bounds, in-round}
 use borrow.Author.Needs.{needs}
@@ -29,11 +29,11 @@ enum-known-e : tie.Need-enum-known-e
 enum-known-e c = search needs
 
 returns : tie.Need-returns
-unfolding dayAt
+unfolding dayFor
 returns c = rw (← is-row (c .before .before), c .day-in .ensures)
 
 returns-2 : tie.Need-returns-2
-unfolding dayAt
+unfolding dayFor
 returns-2 c = rw (← c .before .before .before .month-row .ensures, c .before .e .given .1)
 
 pub day-of-date-spec : {M : Type 1} → statement M

@@ -4,7 +4,7 @@ use Rattle.lunisolar.specs.Calendars.{yearAt}
 use Rattle.lunisolar.specs.declared.YearAnswer.{YearAnswer}
 use Rattle.lunisolar.proofs.Laws.{year-found}
 use Rattle.units.specs.Xinghe.{xinghe}
-use Rattle.calendar.specs.Heads.{headAt}
+use Rattle.calendar.specs.Heads.{headFor}
 use borrow.Author.Needs.{needs}
 use Rattle.calendar.proofs.heads.year_head.Statement.{statement}
 use Rattle.calendar.proofs.heads.year_head.Tie as tie
@@ -26,11 +26,11 @@ enum-known-e : tie.Need-enum-known-e
 enum-known-e c = search needs
 
 returns : tie.Need-returns
-unfolding headAt
+unfolding headFor
 returns c = rw (← is-past (c .before .before), c .head-of .ensures)
 
 returns-2 : tie.Need-returns-2
-unfolding headAt
+unfolding headFor
 returns-2 c = rw (← c .before .before .before .year-at .ensures, c .before .e .given .1)
 
 pub year-head-spec : {M : Type 1} → statement M

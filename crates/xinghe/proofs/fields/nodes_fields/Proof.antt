@@ -2,8 +2,8 @@ use borrow.Author.Needs.{needs}
 use Rattle.xinghe.proofs.fields.nodes_fields.Statement.{statement}
 use Rattle.xinghe.proofs.fields.nodes_fields.Tie as tie
 
-side-number-requires : tie.Need-side-number-requires
-side-number-requires c κs = search needs
+number-requires : tie.Need-number-requires
+number-requires c κs = search needs
 
 bit-requires : tie.Need-bit-requires
 bit-requires c κs = search needs
@@ -12,7 +12,7 @@ bit-requires-2 : tie.Need-bit-requires-2
 bit-requires-2 c κs = search needs
 
 returns : tie.Need-returns
-returns c = rw (c .before .before .side-number .ensures, c .before .bit .ensures, c .bit2 .ensures)
+returns c = rw (c .before .before .number .ensures, c .before .bit .ensures, c .bit2 .ensures)
 
 pub nodes-fields-spec : {M : Type 1} → statement M
-nodes-fields-spec = tie.close (tie.spec side-number-requires bit-requires bit-requires-2 returns)
+nodes-fields-spec = tie.close (tie.spec number-requires bit-requires bit-requires-2 returns)
