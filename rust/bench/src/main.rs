@@ -2,9 +2,9 @@
 
 // The library's own functions, as the C boundary has them; the safe wrappers
 // would add a copy of each answer. The crate is named to have them linked.
-#[path = "../../bindings/src/raw.rs"]
+#[path = "../../xinghe/src/raw.rs"]
 mod raw;
-use bindings as _;
+use xinghe as _;
 
 mod inputs;
 mod measure;
