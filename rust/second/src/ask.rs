@@ -2,6 +2,8 @@
 
 use crate::checkpoints::Checkpoints;
 use crate::instants::{Cut, SunPoint};
+use crate::numbers::SIXTY;
+use crate::spans::carried;
 use crate::walker::{Month, Row, Year};
 
 /// Why nothing is answered; the discriminant is the paper's number.
@@ -26,14 +28,16 @@ pub fn month(number: u64, place: u64) -> Result<Month, Refusal> {
     found.copied().ok_or(Refusal::Place)
 }
 
-/// The number from the origin of a day of a month; the first day is 1.
-pub fn day_number(year: u64, place: u64, day_of_month: u64) -> Result<u64, Refusal> {
-    let row = month(year, place)?.row;
-    if (1..=row.length).contains(&day_of_month) {
-        Ok(row.day + day_of_month - 1)
-    } else {
-        Err(Refusal::DayOfMonth)
+/// The number from the origin of a day of a month, and its day of the sixty;
+/// the first day of a month is 1.
+pub fn day_number(year: u64, place: u64, day_of_month: u64) -> Result<(u64, u64), Refusal> {
+    let month = month(year, place)?;
+    if !(1..=month.row.length).contains(&day_of_month) {
+        return Err(Refusal::DayOfMonth);
     }
+    let later = day_of_month - 1;
+    let (_, sixty) = carried(month.sixty + later, SIXTY);
+    Ok((month.row.day + later, sixty))
 }
 
 /// The month in which a day lies, and the day of that month.

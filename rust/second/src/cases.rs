@@ -103,7 +103,7 @@ fn head(number: u64) -> String {
 fn row(year: u64, place: u64) -> String {
     of_month("row", year, place, |month| {
         let row = &month.row;
-        let sixty = row.day % 60;
+        let sixty = month.sixty;
         format!(
             "{} {} {} {} {sixty} {} {}",
             row.lunation,
@@ -143,7 +143,7 @@ fn cut(year: u64, points: u64, index: u64) -> String {
 
 fn day(year: u64, place: u64, day_of_month: u64) -> String {
     let answer = ask::day_number(year, place, day_of_month)
-        .map(|number| format!("{number} {}", number % 60));
+        .map(|(number, sixty)| format!("{number} {sixty}"));
     line(format!("day {year} {place} {day_of_month}"), answer)
 }
 

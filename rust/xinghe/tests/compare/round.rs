@@ -14,7 +14,6 @@ const SPARSE: u64 = 7;
 fn every_month_of_the_round() {
     let mut tally = Tally::new("round");
     let mut before = None;
-    let mut sixty = 0;
     for year in Walker::from_origin() {
         let chosen = year.number % SPARSE == 1;
         compare_year(&mut tally, &year);
@@ -25,11 +24,10 @@ fn every_month_of_the_round() {
             let row = expected::row(&month.row);
             compare_month(&mut tally, month);
             if chosen {
-                compare_days(&mut tally, month, sixty);
+                compare_days(&mut tally, month);
                 compare_steps(&mut tally, before, row);
             }
             before = Some(row);
-            sixty = (sixty + month.row.length) % 60;
         }
     }
     let last = before.expect("a round with months");
@@ -70,14 +68,13 @@ fn compare_month(tally: &mut Tally, month: &Month) {
     tally.same(xinghe::corrections(year, place), Ok(corrections));
 }
 
-/// The first and the last day of a month, and the day past it. `sixty` is
-/// counted on from month to month.
-fn compare_days(tally: &mut Tally, month: &Month, sixty: u64) {
+/// The first and the last day of a month, and the day past it.
+fn compare_days(tally: &mut Tally, month: &Month) {
     let row = &month.row;
     let (year, place, length) = (row.year, row.place, row.length);
-    let first = [row.day, sixty];
+    let first = [row.day, month.sixty];
     tally.same(xinghe::day_of_date(year, place, 1), Ok(first));
-    let last = [row.day + length - 1, (sixty + length - 1) % 60];
+    let last = [row.day + length - 1, (month.sixty + length - 1) % 60];
     tally.same(xinghe::day_of_date(year, place, length), Ok(last));
     tally.same(xinghe::day_of_date(year, place, length + 1), Err(3));
     tally.same(xinghe::date_of_day(first[0]), Ok([year, place, 1]));

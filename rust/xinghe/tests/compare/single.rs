@@ -33,7 +33,7 @@ fn questions_and_refusals() {
         let day = random.below(33);
         let number = expected::number(ask::day_number(year, place, day));
         let answered = xinghe::day_of_date(year, place, day);
-        tally.same(answered, number.map(|number| [number, number % 60]));
+        tally.same(answered, number.map(|(number, sixty)| [number, sixty]));
         let (cut, index) = (random.pick(&CUTS), random.below(74));
         let point = expected::number(ask::cut_point(year, cut, index));
         let point = point.map(|point| second::fields::point(&point));
