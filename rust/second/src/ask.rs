@@ -14,6 +14,7 @@ pub enum Refusal {
     DayOfMonth = 3,
     ForgedRow = 4,
     CarryOutside = 5,
+    ListTooShort = 6,
     DayNumber = 7,
     Cut = 8,
 }
@@ -59,6 +60,18 @@ pub fn carry(row: &Row, count: i64) -> Result<Row, Refusal> {
         .and_then(|lunation| round.month(lunation))
         .map(|month| month.row)
         .ok_or(Refusal::CarryOutside)
+}
+
+/// Writes the rows of a year to the front of a lent list and gives their count.
+/// The rows past them stay as they were; refused, all of them do.
+pub fn fill_year(number: u64, lent: &mut [Row]) -> Result<usize, Refusal> {
+    let months = year(number)?.months;
+    let front = lent.get_mut(..months.len());
+    let front = front.ok_or(Refusal::ListTooShort)?;
+    for (row, month) in front.iter_mut().zip(&months) {
+        *row = month.row;
+    }
+    Ok(months.len())
 }
 
 /// Point `index` of the cut of a year in `points`.

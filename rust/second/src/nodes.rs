@@ -121,7 +121,7 @@ pub struct FullMoonNode {
 
 /// The farthest from the node at which an eclipse is marked: half a month's way.
 const ECLIPSE_LIMIT: Span = Span::HALF_MONTH;
-/// No eclipse reaches this mark, and one more in size each degree inwards.
+/// The size is the count of the degree marks beyond the distance, this the last.
 const OUTERMOST_MARK: Span = Span::new(15, 0, 0);
 const DEGREE: Span = Span::new(1, 0, 0);
 

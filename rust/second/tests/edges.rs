@@ -119,6 +119,26 @@ fn refusals() {
     assert_eq!(ask::carry(&last, 1), Err(Refusal::CarryOutside));
 }
 
+/// Rows past the year's count stay, and refused, all of them do.
+#[test]
+fn years_in_lent_lists() {
+    let lent = [month(1, 5).row; 14];
+    for (number, length) in [(1, 12), (1, 14), (3, 13), (1_011_600, 13)] {
+        let mut list = lent;
+        let count = ask::fill_year(number, &mut list[..length]).unwrap();
+        let rows = year(number).months.into_iter().map(|month| month.row);
+        assert!(rows.eq(list[..count].iter().copied()));
+        assert_eq!(list[count..], lent[count..]);
+    }
+    let too_short = Err(Refusal::ListTooShort);
+    let no_year = Err(Refusal::Year);
+    for (number, length, refused) in [(1, 11, too_short), (3, 12, too_short), (0, 0, no_year)] {
+        let mut list = lent;
+        assert_eq!(ask::fill_year(number, &mut list[..length]), refused);
+        assert_eq!(list, lent);
+    }
+}
+
 #[test]
 fn printed_year_one() {
     let printed = [
