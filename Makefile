@@ -1,16 +1,45 @@
-.PHONY: test year bench
-YEAR = 293997
+.PHONY: test year head head-rust bench
+
+# The year to print. It is anybody's text: make takes it as it was given, and a
+# recipe gets it by the environment, so that neither make nor the shell runs it.
+YEAR ?= 293997
+override YEAR := $(value YEAR)
+export YEAR
+
+library = target/staticlib/libxinghe.a
+sources := $(shell find crates -name '*.rt' -o -name '*.antt') crates.txt
+
+need_rt = command -v rt >/dev/null || \
+	{ echo 'rt is not there: the Rattle kit has to be on the PATH, see README.md' >&2; exit 1; }
+# Runs $(1); what it writes goes to target/$(2) and is shown where it fails.
+quietly = mkdir -p target && { $(1) >target/$(2) 2>&1 || \
+	{ tail -n 20 target/$(2) >&2; echo '$(1) failed; its lines are in target/$(2)' >&2; exit 1; }; }
 
 # The gate: everything proved from nothing, every wrong program refused, every program run.
 test:
+	@$(need_rt)
 	.ci/run
 
 # A year as the year printer writes it.
 year:
-	@rt check year_printer >&2
-	@echo '$(YEAR)' | target/bin/year_printer
+	@$(need_rt)
+	@$(call quietly,rt check year_printer,year.log)
+	@printf '%s\n' "$$YEAR" | target/bin/year_printer
+
+# The head of a year by the library, from C and from Rust.
+head: $(library)
+	@cc -Iinclude examples/head.c $(library) -o target/head
+	@target/head "$$YEAR"
+
+head-rust: $(library)
+	@cd rust && cargo run --quiet --release --offline --package xinghe --example head -- "$$YEAR"
+
+$(library): $(sources)
+	@$(need_rt)
+	@$(call quietly,rt staticlib xinghe,staticlib.log)
 
 # The proved library against plain Rust, as ratios.
 bench:
+	@$(need_rt)
 	rt staticlib xinghe
 	cd rust && cargo run --release --offline --package bench

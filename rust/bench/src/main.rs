@@ -2,9 +2,9 @@
 
 // The library's own functions, as the C boundary has them; the safe wrappers
 // would add a copy of each answer. The crate is named to have them linked.
-#[path = "../../bindings/src/raw.rs"]
+#[path = "../../xinghe/src/raw.rs"]
 mod raw;
-use bindings as _;
+use xinghe as _;
 
 mod inputs;
 mod measure;
@@ -56,23 +56,14 @@ fn library_walk((row, counts): &([u64; 8], Vec<i64>), end: &mut End) -> u64 {
     unsafe { raw::xinghe_walk(row, counts.as_ptr(), counts.len(), out, totals) }
 }
 
-fn walks(inputs: &Inputs) -> [Line; 2] {
-    [
-        measure(
-            "walk of 1,000 counts",
-            &inputs.walks,
-            ([0; 8], [0; 3]),
-            library_walk,
-            |(row, counts), end| fast::walk(row, counts, &mut end.0, &mut end.1),
-        ),
-        measure(
-            "the same, in Rust too carried row by row",
-            &inputs.walks,
-            ([0; 8], [0; 3]),
-            library_walk,
-            |(row, counts), end| fast::walk_by_rows(row, counts, &mut end.0, &mut end.1),
-        ),
-    ]
+fn walks(inputs: &Inputs) -> Line {
+    measure(
+        "walk of 1,000 counts",
+        &inputs.walks,
+        ([0; 8], [0; 3]),
+        library_walk,
+        |(row, counts), end| fast::walk(row, counts, &mut end.0, &mut end.1),
+    )
 }
 
 fn years(inputs: &Inputs) -> [Line; 2] {
@@ -133,7 +124,7 @@ fn main() {
     println!("| job | library, ns per call | Rust, ns per call | library / Rust |");
     println!("|---|---|---|---|");
     rows_and_dates(&inputs).iter().for_each(Line::print);
-    walks(&inputs).iter().for_each(Line::print);
+    walks(&inputs).print();
     years(&inputs).iter().for_each(Line::print);
     moons(&inputs).iter().for_each(Line::print);
     let survey = survey::measure();

@@ -2,6 +2,8 @@
 
 use crate::checkpoints::Checkpoints;
 use crate::instants::{Cut, SunPoint};
+use crate::numbers::SIXTY;
+use crate::spans::carried;
 use crate::walker::{Month, Row, Year};
 
 /// Why nothing is answered; the discriminant is the paper's number.
@@ -12,6 +14,7 @@ pub enum Refusal {
     DayOfMonth = 3,
     ForgedRow = 4,
     CarryOutside = 5,
+    ListTooShort = 6,
     DayNumber = 7,
     Cut = 8,
 }
@@ -26,14 +29,16 @@ pub fn month(number: u64, place: u64) -> Result<Month, Refusal> {
     found.copied().ok_or(Refusal::Place)
 }
 
-/// The number from the origin of a day of a month; the first day is 1.
-pub fn day_number(year: u64, place: u64, day_of_month: u64) -> Result<u64, Refusal> {
-    let row = month(year, place)?.row;
-    if (1..=row.length).contains(&day_of_month) {
-        Ok(row.day + day_of_month - 1)
-    } else {
-        Err(Refusal::DayOfMonth)
+/// The number from the origin of a day of a month, and its day of the sixty;
+/// the first day of a month is 1.
+pub fn day_number(year: u64, place: u64, day_of_month: u64) -> Result<(u64, u64), Refusal> {
+    let month = month(year, place)?;
+    if !(1..=month.row.length).contains(&day_of_month) {
+        return Err(Refusal::DayOfMonth);
     }
+    let later = day_of_month - 1;
+    let (_, sixty) = carried(month.sixty + later, SIXTY);
+    Ok((month.row.day + later, sixty))
 }
 
 /// The month in which a day lies, and the day of that month.
@@ -55,6 +60,18 @@ pub fn carry(row: &Row, count: i64) -> Result<Row, Refusal> {
         .and_then(|lunation| round.month(lunation))
         .map(|month| month.row)
         .ok_or(Refusal::CarryOutside)
+}
+
+/// Writes the rows of a year to the front of a lent list and gives their count.
+/// The rows past them stay as they were; refused, all of them do.
+pub fn fill_year(number: u64, lent: &mut [Row]) -> Result<usize, Refusal> {
+    let months = year(number)?.months;
+    let front = lent.get_mut(..months.len());
+    let front = front.ok_or(Refusal::ListTooShort)?;
+    for (row, month) in front.iter_mut().zip(&months) {
+        *row = month.row;
+    }
+    Ok(months.len())
 }
 
 /// Point `index` of the cut of a year in `points`.

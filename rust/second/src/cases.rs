@@ -52,7 +52,9 @@ fn edge_lines() -> Vec<String> {
     lines.extend(day_lines());
     lines.extend([0, 28, 29, 107_380_330, 369_481_019, 369_481_020, u64::MAX].map(date));
     lines.extend(carry_lines());
-    lines.push(forged(0, 0));
+    lines.extend(step_lines());
+    lines.extend(forged_lines());
+    lines.extend(fill_lines());
     lines.extend([phases(1_011_600, 13), nodes(0, 0), corrections(1, 12)]);
     lines.extend([
         cut(1, 25, 0),
@@ -95,6 +97,36 @@ fn carry_lines() -> [String; 9] {
     .map(|(lunation, count)| carry(lunation, count))
 }
 
+fn step_lines() -> impl Iterator<Item = String> {
+    let on = [0, 36, 2_085_299, 12_511_798, 12_511_799].map(next);
+    let off = [0, 1, 37, 2_085_300, 12_511_799].map(back);
+    on.into_iter().chain(off)
+}
+
+fn forged_lines() -> [String; 4] {
+    [
+        forged(0, 0),
+        forged(12_511_799, 1),
+        forged_next(5),
+        forged_back(5),
+    ]
+}
+
+fn fill_lines() -> impl Iterator<Item = String> {
+    [
+        (1, 12),
+        (1, 13),
+        (3, 12),
+        (3, 13),
+        (0, 12),
+        (1_011_601, 13),
+        (1_011_600, 12),
+        (1_011_600, 13),
+    ]
+    .into_iter()
+    .flat_map(|(year, have)| fill(year, have))
+}
+
 fn head(number: u64) -> String {
     let answer = ask::year(number).map(|year| joined(&fields::head(&year)));
     line(format!("head {number}"), answer)
@@ -103,7 +135,7 @@ fn head(number: u64) -> String {
 fn row(year: u64, place: u64) -> String {
     of_month("row", year, place, |month| {
         let row = &month.row;
-        let sixty = row.day % 60;
+        let sixty = month.sixty;
         format!(
             "{} {} {} {} {sixty} {} {}",
             row.lunation,
@@ -143,7 +175,7 @@ fn cut(year: u64, points: u64, index: u64) -> String {
 
 fn day(year: u64, place: u64, day_of_month: u64) -> String {
     let answer = ask::day_number(year, place, day_of_month)
-        .map(|number| format!("{number} {}", number % 60));
+        .map(|(number, sixty)| format!("{number} {sixty}"));
     line(format!("day {year} {place} {day_of_month}"), answer)
 }
 
@@ -154,28 +186,83 @@ fn date(number: u64) -> String {
 }
 
 fn carry(lunation: u64, count: i64) -> String {
-    let answer = ask::carry(&genuine_row(lunation), count).map(|row| {
-        format!(
-            "-> {} {} {} {} {} {} {} {}",
-            row.lunation,
-            row.year,
-            row.place,
-            row.number,
-            leap_mark(&row),
-            row.day,
-            row.remainder,
-            row.length
-        )
-    });
-    line(format!("carry {lunation} {count}"), answer)
+    carried(format!("carry {lunation} {count}"), lunation, count)
+}
+
+fn next(lunation: u64) -> String {
+    carried(format!("next {lunation}"), lunation, 1)
+}
+
+fn back(lunation: u64) -> String {
+    carried(format!("back {lunation}"), lunation, -1)
+}
+
+fn carried(question: String, lunation: u64, count: i64) -> String {
+    let answer = ask::carry(&genuine_row(lunation), count);
+    line(
+        question,
+        answer.map(|row| format!("-> {}", whole_row(&row))),
+    )
+}
+
+fn forged(lunation: u64, count: i64) -> String {
+    carried_forged(format!("forged {lunation} {count}"), lunation, count)
+}
+
+fn forged_next(lunation: u64) -> String {
+    carried_forged(format!("forged-next {lunation}"), lunation, 1)
+}
+
+fn forged_back(lunation: u64) -> String {
+    carried_forged(format!("forged-back {lunation}"), lunation, -1)
 }
 
 /// A row with one field changed, which no carry may take.
-fn forged(lunation: u64, count: i64) -> String {
+fn carried_forged(question: String, lunation: u64, count: i64) -> String {
     let mut row = genuine_row(lunation);
     row.remainder += 1;
     let answer = ask::carry(&row, count).map(|_| "taken".to_string());
-    line(format!("forged {lunation} {count}"), answer)
+    line(question, answer)
+}
+
+/// A list of `have` rows is lent; what is answered, then every lent row as it
+/// is afterwards.
+fn fill(year: u64, have: u64) -> Vec<String> {
+    let mut lent: Vec<Row> = (0..have).map(lent_row).collect();
+    let answer = ask::fill_year(year, &mut lent).map(|count| count.to_string());
+    let mut lines = vec![line(format!("fill {year} {have}"), answer)];
+    for (index, row) in lent.iter().enumerate() {
+        lines.push(format!("lent {index} {}\n", whole_row(row)));
+    }
+    lines
+}
+
+/// A row that is no month's, and is told from the others that are lent.
+fn lent_row(index: u64) -> Row {
+    Row {
+        lunation: 1_000 + index,
+        year: 0,
+        place: 0,
+        number: 0,
+        leap: false,
+        day: 0,
+        remainder: 0,
+        length: 0,
+    }
+}
+
+fn whole_row(row: &Row) -> String {
+    format!(
+        "{} {} {} {} {} {} {} {}",
+        row.lunation,
+        row.year,
+        row.place,
+        row.number,
+        leap_mark(row),
+        row.day,
+        row.remainder,
+        row.length
+    )
 }
 
 fn genuine_row(lunation: u64) -> Row {

@@ -63,7 +63,7 @@ impl Digest {
             row.number,
             u64::from(row.leap),
             row.day,
-            row.day % 60,
+            month.sixty,
             row.remainder,
             row.length,
         ]);

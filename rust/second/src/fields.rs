@@ -36,11 +36,11 @@ pub fn new_moon_node(month: &Month) -> [u64; 7] {
         Side::Inside => 2,
     };
     [
-        node.distance.degrees,
+        node.distance.whole,
         node.distance.remainder,
         side,
         u64::from(node.eclipse.marked),
-        node.eclipse.distance.degrees,
+        node.eclipse.distance.whole,
         node.eclipse.distance.remainder,
         node.eclipse.size,
     ]
@@ -49,11 +49,11 @@ pub fn new_moon_node(month: &Month) -> [u64; 7] {
 pub fn full_moon_node(month: &Month) -> [u64; 8] {
     let node = &month.full_moon_node;
     [
-        node.distance.degrees,
+        node.distance.whole,
         node.distance.remainder,
         node.distance.half,
         u64::from(node.eclipse.marked),
-        node.eclipse.distance.degrees,
+        node.eclipse.distance.whole,
         node.eclipse.distance.remainder,
         node.eclipse.distance.half,
         node.eclipse.size,

@@ -1,6 +1,7 @@
 //! Instants that move by one fixed addition: new moons, phases, points of a cut.
 
 use crate::numbers::{D, N, P};
+use crate::spans::carried;
 
 /// A new moon: day from the origin and remainder over N.
 #[derive(Clone, Copy, Debug, PartialEq, Eq)]
@@ -132,15 +133,5 @@ impl SunPoint {
         // The remainders are over different divisors, 12 D and N.
         let twelfths = Cut::MIDDLE_TERMS.points;
         (self.remainder * twelfths + self.rest) * N < moon.remainder * (twelfths * D)
-    }
-}
-
-/// One full count carried out of a sum, where the sum holds one.
-fn carried(sum: u64, full: u64) -> (u64, u64) {
-    assert!(sum < 2 * full);
-    if sum >= full {
-        (1, sum - full)
-    } else {
-        (0, sum)
     }
 }

@@ -1,10 +1,12 @@
 //! The independent second program: the Xinghe calendar walked month after
 //! month from the origin by the treatise's own additions.
 //!
-//! Nothing here divides a count of months or years to find where it stands;
-//! that is the way of the program this one is compared with. [`Walker`] yields
-//! the round a year at a time, [`Checkpoints`] finds a single year, month or
-//! day quickly by walking on from a kept state.
+//! Nothing here divides to find where something stands; that is the way of the
+//! program this one is compared with. Days and degrees are added and taken off
+//! with their remainders ([`spans`]), an eclipse's size is counted along the
+//! degree marks, and a correction is made up of doublings. [`Walker`] yields the
+//! round a year at a time, [`Checkpoints`] finds a single year, month or day
+//! quickly by walking on from a kept state.
 
 pub mod anomaly;
 pub mod ask;
@@ -16,6 +18,7 @@ pub mod instants;
 pub mod nodes;
 pub mod numbers;
 pub mod printer;
+pub mod spans;
 pub mod survey;
 pub mod walker;
 

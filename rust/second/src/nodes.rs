@@ -1,6 +1,6 @@
 //! The moon's distance since the last node, its side, and eclipses.
 
-use crate::numbers::{M, N, P};
+use crate::spans::Span;
 
 /// Where a new moon stands to the road.
 #[derive(Clone, Copy, Debug, PartialEq, Eq)]
@@ -12,16 +12,14 @@ pub enum Side {
 
 /// An era head of the treatise's table.
 struct EraHead {
-    degrees: u64,
-    remainder: u64,
+    since_node: Span,
     outside: bool,
 }
 
 impl EraHead {
     const fn new(degrees: u64, remainder: u64, outside: bool) -> Self {
         Self {
-            degrees,
-            remainder,
+            since_node: Span::new(degrees, remainder, 0),
             outside,
         }
     }
@@ -37,28 +35,24 @@ const ERA_HEADS: [EraHead; 6] = [
     EraHead::new(115, 203_874, true),
 ];
 
-/// The node distance of the new moons, walked from month to month.
+/// The new moons between the nodes, walked from month to month.
 #[derive(Clone, Copy, Debug)]
 pub struct NodeWalk {
-    distance: u64,
+    since_node: Span,
     outside: bool,
 }
 
 impl NodeWalk {
     pub const ORIGIN: Self = Self {
-        distance: 0,
+        since_node: Span::ZERO,
         outside: true,
     };
 
     pub fn next(self) -> Self {
-        let distance = self.distance + P;
-        if distance >= M {
-            Self {
-                distance: distance - M,
-                outside: !self.outside,
-            }
-        } else {
-            Self { distance, ..self }
+        let (passed, since_node) = moved(self.since_node, Span::MONTH);
+        Self {
+            since_node,
+            outside: self.outside != passed,
         }
     }
 
@@ -66,7 +60,7 @@ impl NodeWalk {
     /// distance walked so far must be the printed one.
     pub fn at_era_head(self, era: usize) -> Self {
         let head = &ERA_HEADS[era];
-        assert_eq!(self.distance, head.degrees * N + head.remainder);
+        assert_eq!(self.since_node, head.since_node);
         Self {
             outside: head.outside,
             ..self
@@ -75,104 +69,101 @@ impl NodeWalk {
 
     pub fn new_moon(self) -> NewMoonNode {
         NewMoonNode {
-            distance: Arc::of_halves(2 * self.distance),
+            distance: self.since_node,
             side: self.side(),
-            eclipse: Eclipse::at(2 * self.distance),
+            eclipse: Eclipse::at(self.since_node),
         }
     }
 
-    /// Half a month on from the new moon, in halves of a part.
+    /// Half a month on from the new moon.
     pub fn full_moon(self) -> FullMoonNode {
-        let moved = 2 * self.distance + P;
-        let halves = if moved >= 2 * M { moved - 2 * M } else { moved };
+        let (_, since_node) = moved(self.since_node, Span::HALF_MONTH);
         FullMoonNode {
-            distance: Arc::of_halves(halves),
-            eclipse: Eclipse::at(halves),
+            distance: since_node,
+            eclipse: Eclipse::at(since_node),
         }
     }
 
     fn side(self) -> Side {
-        match (self.distance, self.outside) {
-            (0, _) => Side::AtNode,
+        match (self.since_node, self.outside) {
+            (Span::ZERO, _) => Side::AtNode,
             (_, true) => Side::Outside,
             (_, false) => Side::Inside,
         }
     }
 }
 
+/// Whether the next node is passed on the way, and the distance since the last
+/// one then. A month is too short to pass two.
+fn moved(since_node: Span, way: Span) -> (bool, Span) {
+    let sum = since_node.plus(way);
+    if sum >= Span::NODE_HALF_ROUND {
+        (true, sum.minus(Span::NODE_HALF_ROUND))
+    } else {
+        (false, sum)
+    }
+}
+
 #[derive(Clone, Copy, Debug, PartialEq, Eq)]
 pub struct NewMoonNode {
-    pub distance: Arc,
+    /// Since the last node.
+    pub distance: Span,
     pub side: Side,
     pub eclipse: Eclipse,
 }
 
 #[derive(Clone, Copy, Debug, PartialEq, Eq)]
 pub struct FullMoonNode {
-    pub distance: Arc,
+    /// Since the last node.
+    pub distance: Span,
     pub eclipse: Eclipse,
 }
 
-/// Degrees, remainder over N, and half a part (0 or 1).
-#[derive(Clone, Copy, Debug, PartialEq, Eq)]
-pub struct Arc {
-    pub degrees: u64,
-    pub remainder: u64,
-    pub half: u64,
-}
-
-impl Arc {
-    const ZERO: Self = Self {
-        degrees: 0,
-        remainder: 0,
-        half: 0,
-    };
-
-    fn of_halves(halves: u64) -> Self {
-        let rest = halves % (2 * N);
-        Self {
-            degrees: halves / (2 * N),
-            remainder: rest / 2,
-            half: rest % 2,
-        }
-    }
-}
+/// The farthest from the node at which an eclipse is marked: half a month's way.
+const ECLIPSE_LIMIT: Span = Span::HALF_MONTH;
+/// The size is the count of the degree marks beyond the distance, this the last.
+const OUTERMOST_MARK: Span = Span::new(15, 0, 0);
+const DEGREE: Span = Span::new(1, 0, 0);
 
 /// An eclipse; distance and size are 0 where none is marked.
 #[derive(Clone, Copy, Debug, PartialEq, Eq)]
 pub struct Eclipse {
     pub marked: bool,
-    pub distance: Arc,
+    /// From the nearer node.
+    pub distance: Span,
     pub size: u64,
 }
 
 impl Eclipse {
     const NONE: Self = Self {
         marked: false,
-        distance: Arc::ZERO,
+        distance: Span::ZERO,
         size: 0,
     };
 
-    /// The limit P/2 and the distance are both in halves, so that the full
-    /// moon exactly on the limit is kept.
-    fn at(halves: u64) -> Self {
-        assert!(halves < 2 * M);
-        if halves <= P {
-            Self::marked(halves)
-        } else if halves >= 2 * M - P {
-            Self::marked(2 * M - halves)
-        } else {
-            Self::NONE
+    /// The moon stands between the last node and the next; the nearer counts.
+    /// Halves are kept, and so is the full moon that is exactly on the limit.
+    fn at(since_node: Span) -> Self {
+        let to_next = Span::NODE_HALF_ROUND.minus(since_node);
+        let distance = since_node.min(to_next);
+        if distance > ECLIPSE_LIMIT {
+            return Self::NONE;
         }
-    }
-
-    fn marked(halves: u64) -> Self {
-        let distance = Arc::of_halves(halves);
-        assert!(distance.degrees <= 14);
         Self {
             marked: true,
             distance,
-            size: 15 - distance.degrees,
+            size: size(distance),
         }
     }
+}
+
+/// Counts the degree marks from the outermost inwards that lie beyond.
+fn size(distance: Span) -> u64 {
+    let mut mark = OUTERMOST_MARK;
+    let mut marks = 0;
+    while distance < mark {
+        marks += 1;
+        mark = mark.minus(DEGREE);
+    }
+    marks
 }

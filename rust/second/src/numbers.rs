@@ -19,6 +19,8 @@ pub const ERA_YEARS: u64 = 168_600;
 pub const ERAS: u64 = 6;
 pub const ROUND_YEARS: u64 = 1_011_600;
 pub const ROUND_MONTHS: u64 = 12_511_800;
+/// The days are named by sixties; day 0 is jiazi.
+pub const SIXTY: u64 = 60;
 /// The last day of the round, counted from day 0.
 pub const LAST_DAY: u64 = 369_481_019;
 

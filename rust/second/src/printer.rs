@@ -3,7 +3,7 @@
 use std::io::{self, Write};
 
 use crate::ask;
-use crate::walker::Row;
+use crate::walker::Month;
 
 /// The answer to an input, of which only the first line counts.
 pub fn answer(input: &[u8]) -> String {
@@ -21,7 +21,7 @@ pub fn answer(input: &[u8]) -> String {
                 year.leap_place
             );
             for month in &year.months {
-                text.push_str(&month_line(&month.row));
+                text.push_str(&month_line(month));
             }
             text
         }
@@ -41,15 +41,12 @@ fn year_of(line: &[u8]) -> Option<u64> {
     }
 }
 
-fn month_line(row: &Row) -> String {
+fn month_line(month: &Month) -> String {
+    let row = &month.row;
     let mark = if row.leap { 'L' } else { '-' };
     format!(
         "{} {} {mark} {} {} {}\n",
-        row.place,
-        row.number,
-        row.day % 60,
-        row.remainder,
-        row.length
+        row.place, row.number, month.sixty, row.remainder, row.length
     )
 }
 

@@ -4,8 +4,10 @@ use crate::anomaly::{AnomalyWalk, Correction};
 use crate::instants::{Cut, NewMoon, Phase, SunPoint};
 use crate::nodes::{FullMoonNode, NewMoonNode, NodeWalk};
 use crate::numbers::{
-    CHAPTER_LEAPS, CHAPTER_YEARS, ERA_YEARS, LAST_DAY, LONG_FROM, ROUND_MONTHS, ROUND_YEARS,
+    CHAPTER_LEAPS, CHAPTER_YEARS, ERAS, ERA_YEARS, LAST_DAY, LONG_FROM, ROUND_MONTHS, ROUND_YEARS,
+    SIXTY,
 };
+use crate::spans::carried;
 
 /// The month row of the rules paper.
 #[derive(Clone, Copy, Debug, PartialEq, Eq)]
@@ -25,6 +27,8 @@ pub struct Row {
 #[derive(Clone, Copy, Debug, PartialEq, Eq)]
 pub struct Month {
     pub row: Row,
+    /// Day of the sixty on which it begins.
+    pub sixty: u64,
     pub phases: [Phase; 4],
     pub new_moon_node: NewMoonNode,
     pub full_moon_node: FullMoonNode,
@@ -57,6 +61,8 @@ impl Year {
 struct MoonWalk {
     lunation: u64,
     new_moon: NewMoon,
+    /// The new moon's day of the sixty.
+    sixty: u64,
     phase: Phase,
     node: NodeWalk,
     anomaly: AnomalyWalk,
@@ -66,6 +72,7 @@ impl MoonWalk {
     const ORIGIN: Self = Self {
         lunation: 0,
         new_moon: NewMoon::ORIGIN,
+        sixty: 0,
         phase: Phase::ORIGIN,
         node: NodeWalk::ORIGIN,
         anomaly: AnomalyWalk::ORIGIN,
@@ -81,9 +88,11 @@ impl MoonWalk {
         let new_moon = self.new_moon.next();
         let phase = self.phases()[3].next();
         assert!(phase.is_new_moon(new_moon), "the two walks part");
+        let (_, sixty) = carried(self.sixty + self.length(), SIXTY);
         Self {
             lunation: self.lunation + 1,
             new_moon,
+            sixty,
             phase,
             node: self.node.next(),
             anomaly: self.anomaly.next(),
@@ -111,6 +120,7 @@ impl MoonWalk {
                 remainder: self.new_moon.remainder,
                 length: self.length(),
             },
+            sixty: self.sixty,
             phases,
             new_moon_node: self.node.new_moon(),
             full_moon_node: self.node.full_moon(),
@@ -160,6 +170,9 @@ impl Name {
 #[derive(Clone, Debug)]
 pub struct Walker {
     year: u64,
+    /// Whole eras past, and years of the era at hand.
+    eras_past: usize,
+    era_years_past: u64,
     months_before: u64,
     leap_remainder: u64,
     /// The next middle term; at the start of a year its solstice.
@@ -171,6 +184,8 @@ impl Walker {
     pub fn from_origin() -> Self {
         Self {
             year: 1,
+            eras_past: 0,
+            era_years_past: 0,
             months_before: 0,
             leap_remainder: 0,
             term: SunPoint::ORIGIN,
@@ -194,9 +209,8 @@ impl Walker {
     }
 
     fn enter_era(&mut self) {
-        let past = self.year - 1;
-        if past.is_multiple_of(ERA_YEARS) {
-            self.moon.node = self.moon.node.at_era_head((past / ERA_YEARS) as usize);
+        if self.era_years_past == 0 {
+            self.moon.node = self.moon.node.at_era_head(self.eras_past);
         }
     }
 
@@ -231,9 +245,15 @@ impl Walker {
         self.term.is_before(self.moon.new_moon.next())
     }
 
-    /// The treatise's yearly addition to the months and the leap remainder.
+    /// The treatise's yearly addition to the months and the leap remainder, and
+    /// the count of eras.
     fn step_year(&mut self) {
         self.year += 1;
+        self.era_years_past += 1;
+        if self.era_years_past == ERA_YEARS {
+            self.eras_past += 1;
+            self.era_years_past = 0;
+        }
         self.months_before += 12;
         self.leap_remainder += CHAPTER_LEAPS;
         if self.leap_remainder >= CHAPTER_YEARS {
@@ -253,7 +273,9 @@ impl Walker {
             (LAST_DAY + 1, 0)
         );
         assert_eq!((self.term.day, self.term.remainder), (LAST_DAY + 1, 0));
-        assert_eq!(self.leap_remainder, 0);
+        assert_eq!((self.leap_remainder, self.era_years_past), (0, 0));
+        assert_eq!(self.eras_past as u64, ERAS);
+        assert_eq!(moon.sixty, 0);
     }
 }
 

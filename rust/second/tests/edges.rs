@@ -56,7 +56,7 @@ fn month_nought_at_the_node() {
     let month = month(1, 0);
     let new_moon = month.new_moon_node;
     assert_eq!(
-        (new_moon.distance.degrees, new_moon.distance.remainder),
+        (new_moon.distance.whole, new_moon.distance.remainder),
         (0, 0)
     );
     assert_eq!(new_moon.side, Side::AtNode);
@@ -65,7 +65,7 @@ fn month_nought_at_the_node() {
     let full_moon = month.full_moon_node;
     let distance = full_moon.distance;
     assert_eq!(
-        (distance.degrees, distance.remainder, distance.half),
+        (distance.whole, distance.remainder, distance.half),
         (14, 159_588, 1)
     );
     assert!(full_moon.eclipse.marked);
@@ -77,10 +77,10 @@ fn xinghe_two() {
     let year = year(293_997);
     assert_eq!((year.leap_remainder, year.leap_place), (440, 8));
     assert_eq!(solstice(293_997), (107_380_330, 2_132));
-    let first = year.months[0].row;
-    assert_eq!(first.lunation, 3_636_238);
+    let first = year.months[0];
+    assert_eq!(first.row.lunation, 3_636_238);
     assert_eq!(
-        (first.day, first.day % 60, first.remainder),
+        (first.row.day, first.sixty, first.row.remainder),
         (107_380_307, 47, 1_336)
     );
 }
@@ -90,7 +90,7 @@ fn xinghe_two_node_and_correction() {
     let month = month(293_997, 0);
     let node = month.new_moon_node;
     assert_eq!(
-        (node.distance.degrees, node.distance.remainder),
+        (node.distance.whole, node.distance.remainder),
         (136, 125_572)
     );
     assert_eq!(node.side, Side::Inside);
@@ -119,6 +119,26 @@ fn refusals() {
     assert_eq!(ask::carry(&last, 1), Err(Refusal::CarryOutside));
 }
 
+/// Rows past the year's count stay, and refused, all of them do.
+#[test]
+fn years_in_lent_lists() {
+    let lent = [month(1, 5).row; 14];
+    for (number, length) in [(1, 12), (1, 14), (3, 13), (1_011_600, 13)] {
+        let mut list = lent;
+        let count = ask::fill_year(number, &mut list[..length]).unwrap();
+        let rows = year(number).months.into_iter().map(|month| month.row);
+        assert!(rows.eq(list[..count].iter().copied()));
+        assert_eq!(list[count..], lent[count..]);
+    }
+    let too_short = Err(Refusal::ListTooShort);
+    let no_year = Err(Refusal::Year);
+    for (number, length, refused) in [(1, 11, too_short), (3, 12, too_short), (0, 0, no_year)] {
+        let mut list = lent;
+        assert_eq!(ask::fill_year(number, &mut list[..length]), refused);
+        assert_eq!(list, lent);
+    }
+}
+
 #[test]
 fn printed_year_one() {
     let printed = [
@@ -137,9 +157,10 @@ fn printed_year_one() {
     ];
     let months = year(1).months;
     assert!(months.iter().all(|month| !month.row.leap));
-    let rows = months.iter().map(|month| &month.row);
-    let walked: Vec<_> = rows
-        .map(|row| (row.number, row.day % 60, row.remainder, row.length))
+    let walked: Vec<_> = months
+        .iter()
+        .map(|month| (month, &month.row))
+        .map(|(month, row)| (row.number, month.sixty, row.remainder, row.length))
         .collect();
     assert_eq!(walked, printed);
 }

@@ -83,7 +83,8 @@ pub extern "C" fn cut_point(year: u64, cut: u64, index: u64, out: &mut [u64; 3])
     written(rows::cut_point(year, cut, index), out)
 }
 
-/// The month alone is moved; one row is worked out at the end.
+/// The first row is tested, the month alone is moved, and one row is worked out
+/// at the end.
 #[inline(never)]
 pub fn walk(row: &[u64; 8], counts: &[i64], out: &mut [u64; 8], totals: &mut [u64; 3]) -> u64 {
     if !rows::is_genuine(row) {
@@ -99,35 +100,6 @@ pub fn walk(row: &[u64; 8], counts: &[i64], out: &mut [u64; 8], totals: &mut [u6
     }
     *out = rows::row_of(month);
     *totals = [u64::from(month < row[0]), month.abs_diff(row[0]), answered];
-    0
-}
-
-/// The same walk as the library goes it: every carry is handed the row before
-/// it, looks whether it is genuine and works out the next.
-#[inline(never)]
-pub fn walk_by_rows(
-    row: &[u64; 8],
-    counts: &[i64],
-    out: &mut [u64; 8],
-    totals: &mut [u64; 3],
-) -> u64 {
-    if !rows::is_genuine(row) {
-        (*out, *totals) = ([0; 8], [0; 3]);
-        return 4;
-    }
-    let (mut last, mut next, mut answered) = (*row, [0; 8], 0);
-    for &count in counts {
-        if carry(&last, count, &mut next) == 0 {
-            last = next;
-            answered += 1;
-        }
-    }
-    *out = last;
-    *totals = [
-        u64::from(last[0] < row[0]),
-        last[0].abs_diff(row[0]),
-        answered,
-    ];
     0
 }
 

@@ -30,21 +30,36 @@ fn leap_place(past: u64) -> u64 {
     }
 }
 
-/// The years before a year, and its month count.
+/// The years and the months before a year, and its own months.
+struct Start {
+    past: u64,
+    before: u64,
+    months: u64,
+}
+
 #[inline]
-fn past_and_months(year: u64) -> Result<(u64, u64), u64> {
-    let past = year.wrapping_sub(1);
-    if past >= ROUND_YEARS {
+fn start(year: u64) -> Result<Start, u64> {
+    if !(1..=ROUND_YEARS).contains(&year) {
         return Err(1);
     }
-    Ok((past, months_before(year) - months_before(past)))
+    let past = year - 1;
+    let before = months_before(past);
+    Ok(Start {
+        past,
+        before,
+        months: months_before(year) - before,
+    })
 }
 
 #[inline]
 pub fn head(number: u64) -> Result<[u64; 6], u64> {
-    let (past, months) = past_and_months(number)?;
+    let Start {
+        past,
+        before,
+        months,
+    } = start(number)?;
     Ok([
-        months_before(past),
+        before,
         past * CHAPTER_MONTHS % CHAPTER_YEARS,
         months,
         leap_place(past),
@@ -55,11 +70,11 @@ pub fn head(number: u64) -> Result<[u64; 6], u64> {
 
 #[inline]
 pub fn lunation(number: u64, place: u64) -> Result<u64, u64> {
-    let (past, months) = past_and_months(number)?;
-    if place >= months {
+    let start = start(number)?;
+    if place >= start.months {
         return Err(2);
     }
-    Ok(months_before(past) + place)
+    Ok(start.before + place)
 }
 
 #[inline]
@@ -103,10 +118,8 @@ pub fn is_genuine(row: &[u64; 8]) -> bool {
 /// The month of the round so many months on.
 #[inline]
 pub fn moved(lunation: u64, count: i64) -> Option<u64> {
-    // A sum below 0 wraps to a number far past the round; no count is large
-    // enough to bring it back into the round from there.
-    let next = lunation.wrapping_add_signed(count);
-    (next < ROUND_MONTHS).then_some(next)
+    let next = lunation.checked_add_signed(count);
+    next.filter(|next| *next < ROUND_MONTHS)
 }
 
 #[inline]
@@ -153,7 +166,7 @@ pub fn phases(lunation: u64) -> [u64; 12] {
 
 #[inline]
 pub fn cut_point(number: u64, cut: u64, index: u64) -> Result<[u64; 3], u64> {
-    let (past, _) = past_and_months(number)?;
+    let past = start(number)?.past;
     if index >= cut {
         return Err(8);
     }
@@ -174,17 +187,21 @@ fn point<const CUT: u64>(past: u64, index: u64) -> [u64; 3] {
 
 #[inline]
 pub fn fill(number: u64, out: &mut [u64]) -> u64 {
-    let (past, months) = match past_and_months(number) {
-        Ok(found) => found,
+    let Start {
+        past,
+        before,
+        months,
+    } = match start(number) {
+        Ok(start) => start,
         Err(number) => return number,
     };
-    let Some(list) = out.get_mut(..8 * months as usize) else {
+    let (rows, _) = out.as_chunks_mut();
+    let Some(rows) = rows.get_mut(..months as usize) else {
         return 6;
     };
-    let (before, leap) = (months_before(past), leap_place(past));
-    for (place, row) in list.chunks_exact_mut(8).enumerate() {
-        let place = place as u64;
-        row.copy_from_slice(&named_row(past, place, before + place, leap));
+    let leap = leap_place(past);
+    for (place, row) in (0..).zip(rows) {
+        *row = named_row(past, place, before + place, leap);
     }
     0
 }

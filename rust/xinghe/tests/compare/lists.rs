@@ -31,7 +31,7 @@ fn years_in_lists_of_every_length() {
 /// written outside it.
 fn compare_list(tally: &mut Tally, year: u64, length: usize, rows: &[u64]) {
     let mut memory = [SENTINEL; 8 + LONGEST + 8];
-    let answered = bindings::fill_year(year, &mut memory[8..8 + length]);
+    let answered = xinghe::fill_year(year, &mut memory[8..8 + length]);
     let mut expected = [SENTINEL; 8 + LONGEST + 8];
     if rows.len() <= length {
         expected[8..8 + rows.len()].copy_from_slice(rows);
@@ -48,7 +48,7 @@ fn refused_years_leave_every_list() {
     for year in [0, LAST_YEAR + 1, 1 << 32, i64::MAX as u64, u64::MAX] {
         for length in 0..=LONGEST {
             let mut list = vec![SENTINEL; length];
-            tally.same(bindings::fill_year(year, &mut list), Err(1));
+            tally.same(xinghe::fill_year(year, &mut list), Err(1));
             assert!(list.iter().all(|number| *number == SENTINEL));
         }
     }
@@ -58,9 +58,9 @@ fn refused_years_leave_every_list() {
 /// An empty list of its own, whose pointer comes from no memory at all.
 #[test]
 fn empty_lists() {
-    assert_eq!(bindings::fill_year(1, &mut []), Err(6));
-    assert_eq!(bindings::fill_year(0, &mut []), Err(1));
-    let first = bindings::month_row(1, 0).expect("the first month");
-    let end = bindings::walk(&first, &[]).expect("a walk of no counts");
+    assert_eq!(xinghe::fill_year(1, &mut []), Err(6));
+    assert_eq!(xinghe::fill_year(0, &mut []), Err(1));
+    let first = xinghe::month_row(1, 0).expect("the first month");
+    let end = xinghe::walk(&first, &[]).expect("a walk of no counts");
     assert_eq!((end.row, end.sum, end.answered), (first, 0, 0));
 }

@@ -32,12 +32,12 @@ fn questions_and_refusals() {
         compare_place(&mut tally, year, place);
         let day = random.below(33);
         let number = expected::number(ask::day_number(year, place, day));
-        let answered = bindings::day_of_date(year, place, day);
-        tally.same(answered, number.map(|number| [number, number % 60]));
+        let answered = xinghe::day_of_date(year, place, day);
+        tally.same(answered, number.map(|(number, sixty)| [number, sixty]));
         let (cut, index) = (random.pick(&CUTS), random.below(74));
         let point = expected::number(ask::cut_point(year, cut, index));
         let point = point.map(|point| second::fields::point(&point));
-        tally.same(bindings::cut_point(year, cut, index), point);
+        tally.same(xinghe::cut_point(year, cut, index), point);
     }
     tally.end(21_000);
 }
@@ -45,18 +45,18 @@ fn questions_and_refusals() {
 fn compare_place(tally: &mut Tally, year: u64, place: u64) {
     let head = expected::number(ask::year(year));
     let head = head.map(|year| second::fields::head(&year));
-    tally.same(bindings::year_head(year), head);
+    tally.same(xinghe::year_head(year), head);
     let month = expected::number(ask::month(year, place));
     compare_month(tally, year, place, month.as_ref().map_err(|number| *number));
 }
 
 fn compare_month(tally: &mut Tally, year: u64, place: u64, month: Result<&Month, u64>) {
     let row = month.map(|month| expected::row(&month.row));
-    tally.same(bindings::month_row(year, place), row);
-    tally.same(bindings::phases(year, place), month.map(expected::phases));
-    tally.same(bindings::nodes(year, place), month.map(expected::nodes));
+    tally.same(xinghe::month_row(year, place), row);
+    tally.same(xinghe::phases(year, place), month.map(expected::phases));
+    tally.same(xinghe::nodes(year, place), month.map(expected::nodes));
     let corrections = month.map(expected::corrections);
-    tally.same(bindings::corrections(year, place), corrections);
+    tally.same(xinghe::corrections(year, place), corrections);
 }
 
 /// A year found once and asked for all its places, days and points.
@@ -84,10 +84,10 @@ fn compare_days(tally: &mut Tally, year: u64, place: u64, month: Option<&Month>)
             Some(row) if day == 0 || day > row.length => Err(3),
             Some(row) => Ok(row.day + day - 1),
         };
-        let answered = bindings::day_of_date(year, place, day);
+        let answered = xinghe::day_of_date(year, place, day);
         tally.same(answered, expected.map(|number| [number, number % 60]));
         if let Ok(number) = expected {
-            tally.same(bindings::date_of_day(number), Ok([year, place, day]));
+            tally.same(xinghe::date_of_day(number), Ok([year, place, day]));
         }
     }
 }
@@ -98,7 +98,7 @@ fn compare_points(tally: &mut Tally, year: &Year) {
         let points: Vec<_> = asked.map_or(Vec::new(), |cut| year.points(cut).collect());
         for index in (0..75).chain(EDGES) {
             let point = points.get(index as usize).map(second::fields::point);
-            let answered = bindings::cut_point(year.number, cut, index);
+            let answered = xinghe::cut_point(year.number, cut, index);
             tally.same(answered, point.ok_or(8));
         }
     }
@@ -112,12 +112,12 @@ fn years_outside() {
     let edges = [0, LAST_YEAR + 1].into_iter().chain(EDGES);
     let drawn = (0..50_000).map(|_| random.number() | 1 << 20);
     for year in edges.chain(drawn) {
-        tally.same(bindings::year_head(year), Err(1));
+        tally.same(xinghe::year_head(year), Err(1));
         for other in [0, 12, 13, u64::MAX] {
             compare_month(&mut tally, year, other, Err(1));
-            tally.same(bindings::day_of_date(year, other, other), Err(1));
-            tally.same(bindings::cut_point(year, other, other), Err(1));
-            tally.same(bindings::cut_point(year, 24, other), Err(1));
+            tally.same(xinghe::day_of_date(year, other, other), Err(1));
+            tally.same(xinghe::cut_point(year, other, other), Err(1));
+            tally.same(xinghe::cut_point(year, 24, other), Err(1));
         }
     }
     tally.end(1_000_000);
@@ -132,12 +132,12 @@ fn dates_of_days() {
     for day in edges.into_iter().chain(EDGES).chain(drawn) {
         let date = expected::number(ask::date(day));
         let date = date.map(|(row, day)| [row.year, row.place, day]);
-        tally.same(bindings::date_of_day(day), date);
+        tally.same(xinghe::date_of_day(day), date);
     }
     for _ in 0..500_000 {
         let number = random.below(LAST_DAY + 1);
-        let [year, place, day] = bindings::date_of_day(number).expect("a day of the round");
-        let back = bindings::day_of_date(year, place, day);
+        let [year, place, day] = xinghe::date_of_day(number).expect("a day of the round");
+        let back = xinghe::day_of_date(year, place, day);
         tally.same(back, Ok([number, number % 60]));
     }
     tally.end(500_000);

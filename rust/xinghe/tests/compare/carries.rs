@@ -27,9 +27,9 @@ fn genuine_rows() {
         for count in edges.into_iter().chain(drawn) {
             let carried = expected::number(ask::carry(&row, count));
             let carried = carried.map(|row| expected::row(&row));
-            tally.same(bindings::carry(&expected::row(&row), count), carried);
+            tally.same(xinghe::carry(&expected::row(&row), count), carried);
             if let Ok(there) = carried {
-                let back = bindings::carry(&there, -count);
+                let back = xinghe::carry(&there, -count);
                 tally.same(back, Ok(expected::row(&row)));
             }
         }
@@ -72,11 +72,11 @@ fn compare_forged(tally: &mut Tally, random: &mut Random, forged: &[u64; 8]) {
         assert_eq!(ask::carry(&row, 0), Err(ask::Refusal::ForgedRow));
     }
     for count in [0, 1, i64::MIN, random.count()] {
-        tally.same(bindings::carry(forged, count), Err(4));
+        tally.same(xinghe::carry(forged, count), Err(4));
     }
     let counts = [random.count(), random.count()];
-    tally.same(bindings::walk(forged, &counts[..]), Err(4));
-    tally.same(bindings::walk(forged, &[]), Err(4));
+    tally.same(xinghe::walk(forged, &counts[..]), Err(4));
+    tally.same(xinghe::walk(forged, &[]), Err(4));
 }
 
 fn row_of(numbers: &[u64; 8]) -> Option<Row> {
@@ -105,7 +105,7 @@ fn rows_of_no_month() {
     let mut tally = Tally::new("rows of no month");
     for _ in 0..20_000 {
         let drawn = std::array::from_fn(|_| random.number());
-        tally.same(bindings::carry(&drawn, random.count()), Err(4));
+        tally.same(xinghe::carry(&drawn, random.count()), Err(4));
     }
     for row in some_rows(&mut random, 100) {
         let genuine = expected::row(&row);
@@ -113,7 +113,7 @@ fn rows_of_no_month() {
             let mut exchanged = genuine;
             exchanged.swap(a, b);
             if exchanged != genuine {
-                tally.same(bindings::carry(&exchanged, 0), Err(4));
+                tally.same(xinghe::carry(&exchanged, 0), Err(4));
             }
         }
     }

@@ -1,7 +1,7 @@
 //! Walks, against the paper's walk done on the month alone.
 
-use bindings::Walk;
 use second::{Checkpoints, Row};
+use xinghe::Walk;
 
 use crate::carries::some_rows;
 use crate::expected::{self, LAST_MONTH};
@@ -38,7 +38,7 @@ fn random_lists() {
         let length = if random.below(50) == 0 { 2_000 } else { 40 };
         let length = random.below(length);
         let counts: Vec<_> = (0..length).map(|_| random.count()).collect();
-        let answered = bindings::walk(&expected::row(&row), &counts);
+        let answered = xinghe::walk(&expected::row(&row), &counts);
         tally.same(answered, Ok(walked(&row, &counts)));
     }
     tally.end(6_000);
@@ -61,7 +61,7 @@ fn edge_lists() {
     ];
     for row in some_rows(&mut random, 40) {
         for counts in lists {
-            let answered = bindings::walk(&expected::row(&row), counts);
+            let answered = xinghe::walk(&expected::row(&row), counts);
             tally.same(answered, Ok(walked(&row, counts)));
         }
     }
@@ -79,12 +79,12 @@ fn walk_and_carries() {
         let counts: [i64; 20] = std::array::from_fn(|_| random.count());
         let mut row = start;
         for count in counts {
-            match bindings::carry(&row, count) {
+            match xinghe::carry(&row, count) {
                 Ok(next) => row = next,
                 refused => tally.same(refused, Err(5)),
             }
         }
-        let end = bindings::walk(&start, &counts);
+        let end = xinghe::walk(&start, &counts);
         tally.same(end.map(|end| end.row), Ok(row));
     }
     tally.end(10_000);

@@ -1,7 +1,7 @@
 //! What is written to arrays that hold other numbers before: the values where
 //! a call is answered, zeros where it is refused.
 
-use bindings::Answer;
+use xinghe::Answer;
 
 use crate::expected::{LAST_DAY, LAST_YEAR};
 use crate::random::Random;
@@ -28,29 +28,29 @@ fn compare<const LENGTH: usize>(
 }
 
 fn months(tally: &mut Tally, year: u64, place: u64) {
-    compare(tally, bindings::month_row(year, place), |out| {
+    compare(tally, xinghe::month_row(year, place), |out| {
         raw::xinghe_month_row(year, place, out)
     });
-    compare(tally, bindings::phases(year, place), |out| {
+    compare(tally, xinghe::phases(year, place), |out| {
         raw::xinghe_phases(year, place, out)
     });
-    compare(tally, bindings::nodes(year, place), |out| {
+    compare(tally, xinghe::nodes(year, place), |out| {
         raw::xinghe_nodes(year, place, out)
     });
-    compare(tally, bindings::corrections(year, place), |out| {
+    compare(tally, xinghe::corrections(year, place), |out| {
         raw::xinghe_corrections(year, place, out)
     });
 }
 
 fn days_and_cuts(tally: &mut Tally, year: u64, place: u64, other: u64) {
-    compare(tally, bindings::year_head(year), |out| {
+    compare(tally, xinghe::year_head(year), |out| {
         raw::xinghe_year_head(year, out)
     });
-    compare(tally, bindings::day_of_date(year, place, other), |out| {
+    compare(tally, xinghe::day_of_date(year, place, other), |out| {
         raw::xinghe_day_of_date(year, place, other, out)
     });
     for cut in [12, 24, 60, 72] {
-        compare(tally, bindings::cut_point(year, cut, other), |out| {
+        compare(tally, xinghe::cut_point(year, cut, other), |out| {
             raw::xinghe_cut_point(year, cut, other, out)
         });
     }
@@ -70,7 +70,7 @@ fn answers_and_refusals() {
         months(&mut tally, year, place);
         days_and_cuts(&mut tally, year, place, random.pick(&others));
         let number = random.below(LAST_DAY + LAST_DAY / 4);
-        compare(&mut tally, bindings::date_of_day(number), |out| {
+        compare(&mut tally, xinghe::date_of_day(number), |out| {
             raw::xinghe_date_of_day(number, out)
         });
     }
@@ -84,12 +84,12 @@ fn carries_and_walks() {
     let mut tally = Tally::new("sentinels of carries and walks");
     for _ in 0..50_000 {
         let year = 1 + random.below(LAST_YEAR);
-        let mut row = bindings::month_row(year, random.below(12)).expect("a month");
+        let mut row = xinghe::month_row(year, random.below(12)).expect("a month");
         if random.below(4) == 0 {
             row[random.below(8) as usize] ^= 1 << random.below(64);
         }
         let count = random.count();
-        compare(&mut tally, bindings::carry(&row, count), |out| {
+        compare(&mut tally, xinghe::carry(&row, count), |out| {
             raw::xinghe_carry(&row, count, out)
         });
         compare_walk(&mut tally, &row, &[count, random.count()]);
@@ -102,7 +102,7 @@ fn compare_walk(tally: &mut Tally, row: &[u64; 8], counts: &[i64]) {
     // SAFETY: pointer and length are those of a slice.
     let number =
         unsafe { raw::xinghe_walk(row, counts.as_ptr(), counts.len(), &mut out, &mut totals) };
-    let expected = match bindings::walk(row, counts) {
+    let expected = match xinghe::walk(row, counts) {
         Ok(end) => {
             let below = u64::from(end.sum < 0);
             let totals = [below, end.sum.unsigned_abs(), end.answered];

@@ -14,7 +14,6 @@ const SPARSE: u64 = 7;
 fn every_month_of_the_round() {
     let mut tally = Tally::new("round");
     let mut before = None;
-    let mut sixty = 0;
     for year in Walker::from_origin() {
         let chosen = year.number % SPARSE == 1;
         compare_year(&mut tally, &year);
@@ -25,34 +24,33 @@ fn every_month_of_the_round() {
             let row = expected::row(&month.row);
             compare_month(&mut tally, month);
             if chosen {
-                compare_days(&mut tally, month, sixty);
+                compare_days(&mut tally, month);
                 compare_steps(&mut tally, before, row);
             }
             before = Some(row);
-            sixty = (sixty + month.row.length) % 60;
         }
     }
     let last = before.expect("a round with months");
-    tally.same(bindings::carry(&last, 1), Err(5));
+    tally.same(xinghe::carry(&last, 1), Err(5));
     tally.end(80_000_000);
 }
 
 fn compare_year(tally: &mut Tally, year: &Year) {
     let number = year.number;
-    tally.same(bindings::year_head(number), Ok(second::fields::head(year)));
+    tally.same(xinghe::year_head(number), Ok(second::fields::head(year)));
     let mut list = [0; 13 * 8];
-    tally.same(bindings::fill_year(number, &mut list), Ok(()));
+    tally.same(xinghe::fill_year(number, &mut list), Ok(()));
     for (month, row) in year.months.iter().zip(list.chunks(8)) {
         assert_eq!(row, expected::row(&month.row));
     }
     let past = year.months.len() as u64;
-    tally.same(bindings::month_row(number, past), Err(2));
+    tally.same(xinghe::month_row(number, past), Err(2));
 }
 
 fn compare_cuts(tally: &mut Tally, year: &Year) {
     for cut in Cut::ASKED {
         for (index, point) in year.points(cut).enumerate() {
-            let answered = bindings::cut_point(year.number, cut.points, index as u64);
+            let answered = xinghe::cut_point(year.number, cut.points, index as u64);
             tally.same(answered, Ok(second::fields::point(&point)));
         }
     }
@@ -61,36 +59,35 @@ fn compare_cuts(tally: &mut Tally, year: &Year) {
 fn compare_month(tally: &mut Tally, month: &Month) {
     let (year, place) = (month.row.year, month.row.place);
     let row = expected::row(&month.row);
-    tally.same(bindings::month_row(year, place), Ok(row));
+    tally.same(xinghe::month_row(year, place), Ok(row));
     let phases = expected::phases(month);
-    tally.same(bindings::phases(year, place), Ok(phases));
+    tally.same(xinghe::phases(year, place), Ok(phases));
     let nodes = expected::nodes(month);
-    tally.same(bindings::nodes(year, place), Ok(nodes));
+    tally.same(xinghe::nodes(year, place), Ok(nodes));
     let corrections = expected::corrections(month);
-    tally.same(bindings::corrections(year, place), Ok(corrections));
+    tally.same(xinghe::corrections(year, place), Ok(corrections));
 }
 
-/// The first and the last day of a month, and the day past it. `sixty` is
-/// counted on from month to month.
-fn compare_days(tally: &mut Tally, month: &Month, sixty: u64) {
+/// The first and the last day of a month, and the day past it.
+fn compare_days(tally: &mut Tally, month: &Month) {
     let row = &month.row;
     let (year, place, length) = (row.year, row.place, row.length);
-    let first = [row.day, sixty];
-    tally.same(bindings::day_of_date(year, place, 1), Ok(first));
-    let last = [row.day + length - 1, (sixty + length - 1) % 60];
-    tally.same(bindings::day_of_date(year, place, length), Ok(last));
-    tally.same(bindings::day_of_date(year, place, length + 1), Err(3));
-    tally.same(bindings::date_of_day(first[0]), Ok([year, place, 1]));
-    tally.same(bindings::date_of_day(last[0]), Ok([year, place, length]));
+    let first = [row.day, month.sixty];
+    tally.same(xinghe::day_of_date(year, place, 1), Ok(first));
+    let last = [row.day + length - 1, (month.sixty + length - 1) % 60];
+    tally.same(xinghe::day_of_date(year, place, length), Ok(last));
+    tally.same(xinghe::day_of_date(year, place, length + 1), Err(3));
+    tally.same(xinghe::date_of_day(first[0]), Ok([year, place, 1]));
+    tally.same(xinghe::date_of_day(last[0]), Ok([year, place, length]));
 }
 
 /// From the month before to this one, and back.
 fn compare_steps(tally: &mut Tally, before: Option<[u64; 8]>, row: [u64; 8]) {
     match before {
         Some(before) => {
-            tally.same(bindings::carry(&before, 1), Ok(row));
-            tally.same(bindings::carry(&row, -1), Ok(before));
+            tally.same(xinghe::carry(&before, 1), Ok(row));
+            tally.same(xinghe::carry(&row, -1), Ok(before));
         }
-        None => tally.same(bindings::carry(&row, -1), Err(5)),
+        None => tally.same(xinghe::carry(&row, -1), Err(5)),
     }
 }

@@ -1,0 +1,101 @@
+//! The benchmark's inputs are all answered; here the plain Rust refuses what
+//! the library refuses, so that neither is spared a test in the other's favour.
+
+use bench::fast;
+use xinghe::Row;
+
+const OTHER: u64 = 7;
+
+/// The number and the values, zeros where it is refused.
+fn numbered<const LENGTH: usize>(answer: xinghe::Answer<[u64; LENGTH]>) -> (u64, [u64; LENGTH]) {
+    match answer {
+        Ok(values) => (0, values),
+        Err(number) => (number, [0; LENGTH]),
+    }
+}
+
+fn some_row() -> Row {
+    xinghe::month_row(293_997, 8).expect("a leap month")
+}
+
+/// The row itself, with each field changed, and of no month.
+fn genuine_and_forged() -> Vec<Row> {
+    let mut rows = vec![some_row(), [u64::MAX; 8], [12_511_800, 0, 0, 0, 0, 0, 0, 0]];
+    for field in 0..8 {
+        let mut forged = some_row();
+        forged[field] += 1;
+        rows.push(forged);
+    }
+    rows
+}
+
+#[test]
+fn carries() {
+    for row in genuine_and_forged() {
+        for count in [0, 1, -1, i64::MIN, i64::MAX, 12_511_799, -12_511_799] {
+            let mut out = [OTHER; 8];
+            let number = fast::carry(&row, count, &mut out);
+            assert_eq!((number, out), numbered(xinghe::carry(&row, count)));
+        }
+    }
+}
+
+#[test]
+fn walks() {
+    let counts = [i64::MIN, 5, -3_636_247, -1, i64::MAX, 12_511_799, 1, -2];
+    for row in genuine_and_forged() {
+        for counts in [&counts[..], &[]] {
+            let (mut out, mut totals) = ([OTHER; 8], [OTHER; 3]);
+            let number = fast::walk(&row, counts, &mut out, &mut totals);
+            let expected = match xinghe::walk(&row, counts) {
+                Ok(end) => {
+                    let below = u64::from(end.sum < 0);
+                    let totals = [below, end.sum.unsigned_abs(), end.answered];
+                    (0, end.row, totals)
+                }
+                Err(number) => (number, [0; 8], [0; 3]),
+            };
+            assert_eq!((number, out, totals), expected);
+        }
+    }
+}
+
+#[test]
+fn lists() {
+    for year in [0, 1, 2, 3, 1_011_600, 1_011_601, u64::MAX] {
+        for length in 0..=120 {
+            let mut list = vec![OTHER; length];
+            let mut expected = list.clone();
+            let number = fast::fill_year(year, &mut list);
+            let answer = xinghe::fill_year(year, &mut expected);
+            assert_eq!(number, answer.err().unwrap_or(0));
+            assert_eq!(list, expected);
+        }
+    }
+}
+
+#[test]
+fn years_places_days_and_cuts() {
+    for year in [0, 1, 3, 1_011_600, 1_011_601, u64::MAX] {
+        for place in [0, 11, 12, 13, u64::MAX] {
+            let mut row = [OTHER; 8];
+            let number = fast::month_row(year, place, &mut row);
+            let expected = xinghe::month_row(year, place);
+            assert_eq!((number, row), numbered(expected));
+            let mut day = [OTHER; 2];
+            let number = fast::day_of_date(year, place, 30, &mut day);
+            assert_eq!(
+                (number, day),
+                numbered(xinghe::day_of_date(year, place, 30))
+            );
+            for cut in [0, 24, 25, 60, 72] {
+                let mut point = [OTHER; 3];
+                let number = fast::cut_point(year, cut, place, &mut point);
+                assert_eq!(
+                    (number, point),
+                    numbered(xinghe::cut_point(year, cut, place))
+                );
+            }
+        }
+    }
+}
