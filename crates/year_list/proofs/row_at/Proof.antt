@@ -1,3 +1,4 @@
+use native.Mathlib.Omega.{arith}
 use mathlib.Core.Path.{_≡_, ap, _∙_}
 use Rattle.calendar.specs.Answers.{rowValues}
 use Rattle.year_list.proofs.Fronts.{has-head}
@@ -11,7 +12,7 @@ values-requires c κs = search needs
 row-under-requires : tie.Need-row-under-requires
 row-under-requires c κs =
     let a = c .before in
-    rw (c .values .ensures) (has-head (a .args .head) (a .args .place) (a .pre .1) ∙ a .pre .0, a .pre .1)
+    rw (c .values .ensures) (has-head (a .args .head) (a .args .place) (a .pre .1) ∙ a .pre .0, omega (arith, a .pre .1))
 
 returns : tie.Need-returns
 returns c = ap rowValues (c .row-under .ensures)
