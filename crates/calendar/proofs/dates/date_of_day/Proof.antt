@@ -22,7 +22,7 @@ begins row m d p q = rw (p, q) (month-from (newMoon means) days-climb d)
 
 returns : tie.Need-returns
 unfolding dateOfDay
-returns c = rw (le-ltb (c .before .args .number) roundDays (c .if1 .taken))
+returns c = rw (le-ltb (c .before .args .number) roundDays (omega (arith, c .if1 .taken)))
 
 month-of-day-requires : tie.Need-month-of-day-requires
 month-of-day-requires c κs = search needs
