@@ -63,17 +63,17 @@ module _ (R : Rule) (L : Laws R) where
     term-high : (k : ℕ) → k ≤ 12 → L .month (12 * y + k) + 12 ≤ R .before (suc y) + k
     term-high k h = omega (arith, term-left k (12 - k) (omega arith))
 
-    leap-by : (m : ℕ) → ((k : ℕ) → k < 12 → ¬ (m ≡ L .month (12 * y + k))) → T (isLeap R y m)
-    unfolding isLeap
-    leap-by m none =
-        not-T (any (λ k. R .holds m (12 * y + k)) 12)
-        (λ t. let r = any-gives (λ k. R .holds m (12 * y + k)) 12 t in none (r .0) (r .1) (L .only m (12 * y + r .0) (r .2)))
-
     leap-not : (m k : ℕ) → k < 12 → m ≡ L .month (12 * y + k) → ¬ (T (isLeap R y m))
     unfolding isLeap
     leap-not m k h e t =
         T-not (any (λ i. R .holds m (12 * y + i)) 12) t
         (any-of (λ i. R .holds m (12 * y + i)) 12 k h (rw e (L .held (12 * y + k))))
+
+    leap-by : (m : ℕ) → ((k : ℕ) → k < 12 → ¬ (m ≡ L .month (12 * y + k))) → T (isLeap R y m)
+    unfolding isLeap
+    leap-by m none =
+        not-T (any (λ k. R .holds m (12 * y + k)) 12)
+        (λ t. let r = any-gives (λ k. R .holds m (12 * y + k)) 12 t in none (r .0) (r .1) (L .only m (12 * y + r .0) (r .2)))
 
     -- a leap month holds no middle term at all, of whatever year
     pub leap-holds-none : (m j : ℕ) → R .before y ≤ m → m < R .before (suc y) → T (isLeap R y m) → ¬ (T (R .holds m j))

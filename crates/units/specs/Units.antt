@@ -1,4 +1,4 @@
--- The units (01, "How to write each place"): a remainder over N and a remainder over D are carried each by its own function.
+-- The units (01, "Numbers that everything stands on"): a remainder over N and a remainder over D are carried each by its own function.
 -- Assumes nothing.
 use Prim.Native.Nat.{ℕ, _+_, _/_, _%_}
 use Rattle.units.specs.Xinghe.{N, D}

@@ -1,4 +1,7 @@
+use native.Mathlib.Omega.{arith}
+use Prim.Native.Nat.{_-_, _*_}
 use borrow.Author.Tests.{le-leb, lt-leb}
+use Rattle.units.specs.Xinghe.{P, M}
 use Rattle.node.specs.Eclipses.{eclipseOf, noEclipse}
 use borrow.Author.Needs.{needs}
 use Rattle.node.proofs.eclipse_of.Statement.{statement}
@@ -9,7 +12,7 @@ eclipse-at-requires c κs = search needs
 
 returns : tie.Need-returns
 unfolding eclipseOf
-returns c = simp (le-leb _ _ (c .before .if1 .taken)) (c .eclipse-at .ensures)
+returns c = simp (le-leb (c .before .before .args .halves) P (omega (arith, c .before .if1 .taken))) (c .eclipse-at .ensures)
 
 mul-if2 : tie.Need-mul-if2
 mul-if2 c = search needs
@@ -28,14 +31,20 @@ eclipse-at-requires-2 c κs = search needs
 
 returns-2 : tie.Need-returns-2
 unfolding eclipseOf
-returns-2 c = simp (lt-leb _ _ (c .before .before .if1 .left), le-leb _ _ (c .before .if2 .taken)) (c .eclipse-at2 .ensures)
+returns-2 c =
+    let h = c .before .before .before .args .halves in
+    let o = c .before .before .if1 .left in
+    let t = c .before .if2 .taken in
+    simp (lt-leb h P (omega (arith, o, t)), le-leb (2 * M - P) h t) (c .eclipse-at2 .ensures)
 
 distance-of-requires : tie.Need-distance-of-requires
 distance-of-requires c κs = search needs
 
 returns-3 : tie.Need-returns-3
 unfolding eclipseOf noEclipse
-returns-3 c = simp (lt-leb _ _ (c .before .before .if1 .left), lt-leb _ _ (c .before .if2 .left), c .distance-of .ensures)
+returns-3 c =
+    let h = c .before .before .before .args .halves in
+    simp (lt-leb h P (omega (arith, c .before .before .if1 .left)), lt-leb (2 * M - P) h (c .before .if2 .left), c .distance-of .ensures)
 
 pub eclipse-of-spec : {M : Type 1} → statement M
 eclipse-of-spec =

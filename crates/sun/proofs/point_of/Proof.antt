@@ -1,12 +1,15 @@
 use native.Mathlib.Omega.{arith}
-use Prim.Native.Nat.{_+_, _*_, _≤_}
+use Prim.Native.Nat.{ℕ, _+_, _*_, _/_, _≤_, _<_}
 use native.Mathlib.Nat.{zero-add, div-le-self}
 use Rattle.lunisolar.proofs.Laws.{product}
-use Rattle.units.specs.Xinghe.{P}
 use Rattle.sun.specs.Points.{pointOf}
 use borrow.Author.Needs.{needs}
 use Rattle.sun.proofs.point_of.Statement.{statement}
 use Rattle.sun.proofs.point_of.Tie as tie
+
+-- a quotient is no greater than what is divided
+quotient-fits : (a b : ℕ) → a < 18446744073709551616 → 0 + a / b < 18446744073709551616
+quotient-fits a b h = omega (arith, h, div-le-self a b)
 
 room : (a : tie.Start) → a .args .y * a .args .cut ≤ 1048576 * 72
 room a = product (a .args .y) (a .args .cut) 1048576 72 (omega arith) (omega arith)
@@ -24,7 +27,7 @@ div-carry : tie.Need-div-carry
 div-carry c = search needs
 
 carry-requires : tie.Need-carry-requires
-carry-requires c κs = let a = c .args in omega (arith, room c, div-le-self ((a .y * a .cut + a .index) * P) (a .cut))
+carry-requires c κs = search (needs, quotient-fits, mul-over-2 c)
 
 rem-t8 : tie.Need-rem-t8
 rem-t8 c = search needs

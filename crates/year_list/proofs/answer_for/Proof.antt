@@ -1,3 +1,4 @@
+use native.Mathlib.Omega.{arith}
 use borrow.Author.Tests.{le-leb, lt-leb}
 use Rattle.year_list.specs.Filled.{answerFor}
 use borrow.Author.Needs.{needs}
@@ -14,13 +15,13 @@ returns : tie.Need-returns
 unfolding answerFor
 returns c =
     let a = c .before .before .before in
-    rw (a .head .given .1, le-leb (a .head .given .0 .0 .months) (a .before .before .args .have) (c .if1 .taken))
+    rw (a .head .given .1, le-leb (a .head .given .0 .0 .months) (a .before .before .args .have) (omega (arith, c .if1 .taken)))
 
 returns-2 : tie.Need-returns-2
 unfolding answerFor
 returns-2 c =
     let a = c .before .before .before in
-    rw (a .head .given .1, lt-leb (a .head .given .0 .0 .months) (a .before .before .args .have) (c .if1 .left))
+    rw (a .head .given .1, lt-leb (a .head .given .0 .0 .months) (a .before .before .args .have) (omega (arith, c .if1 .left)))
 
 returns-3 : tie.Need-returns-3
 unfolding answerFor

@@ -18,7 +18,7 @@ returns-2 : tie.Need-returns-2
 unfolding fed
 returns-2 c =
     let a = c .before .before .before .args in
-    rw (not-false (a .self .valid) (c .before .before .if1 .left), too-low (a .byte) (c .before .if2 .taken)) (c .refused .ensures)
+    rw (not-false (a .self .valid) (c .before .before .if1 .left), too-low (a .byte) (omega (arith, c .before .if2 .taken))) (c .refused .ensures)
 
 refused-requires-2 : tie.Need-refused-requires-2
 refused-requires-2 c κs = search needs
@@ -27,7 +27,7 @@ returns-3 : tie.Need-returns-3
 unfolding fed
 returns-3 c =
     let a = c .before .before .before .before .args in
-    rw (not-false (a .self .valid) (c .before .before .before .if1 .left), too-high (a .byte) (c .before .if3 .taken)) (c .refused2 .ensures)
+    rw (not-false (a .self .valid) (c .before .before .before .if1 .left), too-high (a .byte) (omega (arith, c .before .if3 .taken))) (c .refused2 .ensures)
 
 cast-longer : tie.Need-cast-longer
 cast-longer c = search needs
