@@ -1,6 +1,6 @@
 // A month's leap mark and number, from its year's leap place (0 for none) and its own place.
 ghost use mathlib.Core.Path.{_≡_};
-ghost use Prim.Native.Nat.{_<_};
+ghost use Prim.Native.Nat.{_+_, _%_, _<_};
 ghost use Rattle.reckoning.specs.Figures.{leapAt, numberAt};
 
 pub fn leap_at(leap: u64, place: u64) -> bool
@@ -9,13 +9,23 @@ pub fn leap_at(leap: u64, place: u64) -> bool
     (0 < leap) & (place == leap)
 }
 
+// The number so many months after the first, by a comparison: nothing is divided.
+fn number_after(months: u64) -> u64
+    requires { ⌜ months < 24 ⌝ }
+    ensures { λ r. ⌜ r ≡ months % 12 + 1 ⌝ }
+{
+    if months < 12 {
+        months + 1
+    } else {
+        months - 11
+    }
+}
+
 pub fn number_at(leap: u64, place: u64) -> u64
     requires { ⌜ place < 13 ⌝ }
     ensures { λ r. ⌜ r ≡ numberAt leap place ⌝ }
 {
-    if (0 < leap) & (leap <= place) {
-        (place + 9) % 12 + 1
-    } else {
-        (place + 10) % 12 + 1
-    }
+    // The leap month and those after it are one number behind. Taken off as a number, it needs no jump.
+    let behind = ((0 < leap) & (leap <= place)) as u64;
+    number_after(place + 10 - behind)
 }

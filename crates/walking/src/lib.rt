@@ -1,8 +1,8 @@
 // Months of a round and signed counts, over any size of the round. specs/Walk.antt has the carry and the walk over any row.
 ghost use mathlib.Core.Path.{_≡_};
-ghost use Prim.Native.Nat.{_-_, _<_};
+ghost use Prim.Native.Nat.{_-_, _≤_, _<_};
 ghost use lib.IntN.{pos, _+ℤ_, _-ℤ_};
-ghost use Rattle.walking.specs.Signed.{signOf, targetOf};
+ghost use Rattle.walking.specs.Signed.{signOf, bitsOf, targetOf};
 ghost use Rattle.walking.specs.Paper.{stepsOf};
 
 // A whole number by its sign: Up(n) is n and Down(n) is -(n + 1), so that every i64 has its side and none overflows.
@@ -27,26 +27,27 @@ pub enum Target {
     Outside,
 }
 
-// The month so many months on from a month of a round of that size, in whole numbers.
-pub fn reach(size: u64, month: u64, count: i64) -> Target
-    requires { ⌜ month < size ⌝ }
-    ensures { λ r. ⌜ r ≡ targetOf size (pos month +ℤ count) ⌝ }
+// A count as the unsigned number with the same 64 bits.
+fn bits_of(count: i64) -> u64
+    ensures { λ r. ⌜ r ≡ bitsOf count ⌝ }
 {
     match sign_of(count) {
-        Sign::Up(n) => {
-            if n < size - month {
-                Target::Month(month + n)
-            } else {
-                Target::Outside
-            }
-        }
-        Sign::Down(n) => {
-            if n < month {
-                Target::Month(month - 1 - n)
-            } else {
-                Target::Outside
-            }
-        }
+        Sign::Up(n) => n,
+        Sign::Down(n) => u64::MAX - n,
+    }
+}
+
+// The month so many months on from a month of a round of that size, in whole numbers. A sum below 0 wraps to 2^63 or more, past every
+// round, so that one comparison tells both sides and the compiler needs no jump.
+pub fn reach(size: u64, month: u64, count: i64) -> Target
+    requires { ⌜ (month < size) × (size ≤ 9223372036854775808) ⌝ }
+    ensures { λ r. ⌜ r ≡ targetOf size (pos month +ℤ count) ⌝ }
+{
+    let to = std::num::wrapping_add_u64(month, bits_of(count));
+    if to < size {
+        Target::Month(to)
+    } else {
+        Target::Outside
     }
 }
 
@@ -70,7 +71,7 @@ pub struct Steps {
 
 // A walk by months: each count leads on from the month that the last answered one reached, at first from the month it starts from.
 pub fn walk_months(size: u64, from: u64, counts: &[i64]) -> Steps
-    requires { ⌜ from < size ⌝ }
+    requires { ⌜ (from < size) × (size ≤ 9223372036854775808) ⌝ }
     ensures { λ r. ⌜ r ≡ stepsOf size from (now (counts .entry)) ⌝ }
 {
     let mut month = from;

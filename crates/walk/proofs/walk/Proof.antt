@@ -33,7 +33,7 @@ is-genuine-requires : tie.Need-is-genuine-requires
 is-genuine-requires c κs = search needs
 
 walk-months-requires : tie.Need-walk-months-requires
-walk-months-requires c κs = own-month months (c .before .before .args .start) (mine c)
+walk-months-requires c κs = (own-month months (c .before .before .args .start) (mine c), omega arith)
 
 row-of-requires : tie.Need-row-of-requires
 row-of-requires c κs = inside c

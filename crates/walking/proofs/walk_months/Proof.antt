@@ -23,7 +23,7 @@ reached : (a : tie.After-reach Inv-loop μ-loop) →
 reached a = rw (toZ-ofZ {w = w64} (record { sfits = a .before .count .given })) at (a .reach .ensures)
 
 loop-holds : tie.Need-loop-holds Inv-loop μ-loop
-loop-holds c = at-start (c .args .size) (c .args .from) (c .args .counts .now) (c .pre)
+loop-holds c = at-start (c .args .size) (c .args .from) (c .args .counts .now) (c .pre .0)
 
 mul-count : tie.Need-mul-count Inv-loop μ-loop
 mul-count c = search needs
@@ -35,7 +35,7 @@ add-i : tie.Need-add-i Inv-loop μ-loop
 add-i c = search needs
 
 reach-requires : tie.Need-reach-requires Inv-loop μ-loop
-reach-requires c κs = c .before .before .loop .inv .in-round
+reach-requires c κs = let l = c .before .before in (l .loop .inv .in-round, l .before .pre .1)
 
 enum-known-k : tie.Need-enum-known-k Inv-loop μ-loop
 enum-known-k c = search needs

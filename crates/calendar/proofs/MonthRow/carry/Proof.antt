@@ -1,3 +1,4 @@
+use native.Mathlib.Omega.{arith}
 use mathlib.Core.Bool.{true}
 use mathlib.Core.Path.{_≡_, sym, ap, _∙_}
 use lib.IntN.{ℤ, pos, _+ℤ_}
@@ -26,7 +27,7 @@ is-genuine-requires : tie.Need-is-genuine-requires
 is-genuine-requires c κs = search needs
 
 reach-requires : tie.Need-reach-requires
-reach-requires c κs = own-month months (c .before .before .args .self) (mine c)
+reach-requires c κs = (own-month months (c .before .before .args .self) (mine c), omega arith)
 
 enum-known-k : tie.Need-enum-known-k
 enum-known-k c = search needs
