@@ -14,11 +14,7 @@ fn number_after(months: u64) -> u64
     requires { ⌜ months < 24 ⌝ }
     ensures { λ r. ⌜ r ≡ months % 12 + 1 ⌝ }
 {
-    if months < 12 {
-        months + 1
-    } else {
-        months - 11
-    }
+    if months < 12 { months + 1 } else { months - 11 }
 }
 
 pub fn number_at(leap: u64, place: u64) -> u64
