@@ -4,10 +4,12 @@ use mathlib.Core.Path.{_≡_, refl}
 use Prim.Native.Nat.{ℕ, zero, suc, _+_, _-_, _*_, _/_, _%_, _≤_, _<_}
 use native.Mathlib.Omega.{arith}
 use native.Mathlib.Nat.{mul-le-mul, mod-lt}
-use lib.Dec.{ltb, ltb→lt}
-use borrow.Author.Tests.{lt-ltb}
+use mathlib.Core.Bool.{_&&_}
+use lib.Dec.{leb, ltb, eqb, ltb→lt}
+use borrow.Author.Tests.{lt-ltb, lt-leb, ne-eqb}
 use Rattle.reckoning.specs.Search.{pick, between}
 use Rattle.reckoning.specs.Rule.{monthCount, leapPlace}
+use Rattle.reckoning.specs.Figures.{leapAt}
 use Rattle.reckoning.specs.Instants.{instants}
 use Rattle.reckoning.proofs.Searches.{chosen, inside, between-low, between-high}
 use Rattle.reckoning.proofs.Laws.{Laws}
@@ -54,6 +56,17 @@ module _ (k : Constants) (s : Sound k) where
   pub one-leap : (y : ℕ) → k .chapter ≤ leapRemainder k y + (k .lunations - 12 * k .chapter) →
       leapPlace (ruleOf k) y ≡ (12 * (k .chapter - leapRemainder k y) + (k .lunations - 12 * k .chapter - 1)) / (k .lunations - 12 * k .chapter)
   one-leap y h = leap-place-by (meansOf k) (k .lunations) (k .chapter) (s .rule) (k .lunations - 12 * k .chapter) leaps-are y h
+
+-- where a place below 13 stands to the leap place, or to 13 where there is none
+module _ (place : ℕ) (h : place < 13) where
+  pub from-leap : (leap : ℕ) → leb (pick (eqb leap 0) 13 leap) place ≡ (ltb 0 leap && leb leap place)
+  from-leap zero = lt-leb 13 place h
+  from-leap (suc l) = rw (ne-eqb (suc l) 0 (λ e. omega (arith, e)), lt-ltb 0 (suc l) (omega arith))
+
+  pub at-leap : (leap : ℕ) → eqb place (pick (eqb leap 0) 13 leap) ≡ leapAt leap place
+  unfolding leapAt
+  at-leap zero = ne-eqb place 13 (λ e. omega (arith, e))
+  at-leap (suc l) = rw (ne-eqb (suc l) 0 (λ e. omega (arith, e)), lt-ltb 0 (suc l) (omega arith))
 
 -- a year that is answered is one of the calendar's
 pub record YearFound (k : Constants) (n y : ℕ) : Type 0 where

@@ -1,12 +1,22 @@
 // A month's leap mark and number, from its year's leap place (0 for none) and its own place.
 ghost use mathlib.Core.Path.{_≡_};
 ghost use Prim.Native.Nat.{_+_, _%_, _<_};
+ghost use lib.Dec.{eqb};
+ghost use Rattle.reckoning.specs.Search.{pick};
 ghost use Rattle.reckoning.specs.Figures.{leapAt, numberAt};
 
+// The leap place, or one past every place where there is none: one comparison then tells where a month stands to it.
+fn leap_from(leap: u64) -> u64
+    ensures { λ r. ⌜ r ≡ pick (eqb leap 0) 13 leap ⌝ }
+{
+    if leap == 0 { 13 } else { leap }
+}
+
 pub fn leap_at(leap: u64, place: u64) -> bool
+    requires { ⌜ place < 13 ⌝ }
     ensures { λ r. ⌜ r ≡ leapAt leap place ⌝ }
 {
-    (0 < leap) & (place == leap)
+    place == leap_from(leap)
 }
 
 // The number so many months after the first, by a comparison: nothing is divided.
@@ -22,6 +32,6 @@ pub fn number_at(leap: u64, place: u64) -> u64
     ensures { λ r. ⌜ r ≡ numberAt leap place ⌝ }
 {
     // The leap month and those after it are one number behind. Taken off as a number, it needs no jump.
-    let behind = ((0 < leap) & (leap <= place)) as u64;
+    let behind = (leap_from(leap) <= place) as u64;
     number_after(place + 10 - behind)
 }

@@ -11,7 +11,7 @@ number-at-requires : tie.Need-number-at-requires
 number-at-requires c κs = omega (arith, c .pre .0 .place, count-bound xinghe sound (c .args .y))
 
 leap-at-requires : tie.Need-leap-at-requires
-leap-at-requires c κs = search needs
+leap-at-requires c κs = let a = c .before in omega (arith, a .pre .0 .place, count-bound xinghe sound (a .args .y))
 
 new-moon-requires : tie.Need-new-moon-requires
 new-moon-requires c κs = let a = c .before .before in omega (arith, in-round (a .args .y) (a .args .place) (a .args .lunation) (a .pre .0))

@@ -1,11 +1,18 @@
-use mathlib.Core.Path.{refl}
-use Rattle.reckoning.specs.Figures.{leapAt}
+use mathlib.Core.Path.{_≡_, ap, _∙_}
+use Prim.Native.Nat.{ℕ}
+use lib.Dec.{eqb}
+use Rattle.lunisolar.proofs.Laws.{at-leap}
+use borrow.Author.Needs.{needs}
 use Rattle.lunisolar.proofs.numbering.leap_at.Statement.{statement}
 use Rattle.lunisolar.proofs.numbering.leap_at.Tie as tie
 
+leap-from-requires : tie.Need-leap-from-requires
+leap-from-requires c κs = search needs
+
 returns : tie.Need-returns
-unfolding leapAt
-returns c = refl
+returns c =
+    let s = c .before in
+    ap (λ (l : ℕ). eqb (s .args .place) l) (c .leap-from .ensures) ∙ at-leap (s .args .place) (s .pre) (s .args .leap)
 
 pub leap-at-spec : {M : Type 1} → statement M
-leap-at-spec = tie.close (tie.spec returns)
+leap-at-spec = tie.close (tie.spec leap-from-requires returns)
