@@ -99,14 +99,18 @@ pub fn ask_date(number: u64) {
     }
 }
 
+fn write_carried(line: Line, answer: RowAnswer) {
+    match answer {
+        RowAnswer::Answered(row) => fields::with_carried_row(line.text(b" ->"), row).write(),
+        RowAnswer::Refused(refusal) => line.refuse(refusal),
+    }
+}
+
 pub fn ask_carry(lunation: u64, count: i64)
     requires { ⌜ lunation < roundMonths ⌝ }
 {
     let line = Line::new().text(b"carry").number(lunation).signed(count);
-    match calendar::rows::row_of(lunation).carry(count) {
-        RowAnswer::Answered(row) => fields::with_carried_row(line.text(b" ->"), row).write(),
-        RowAnswer::Refused(refusal) => line.refuse(refusal),
-    }
+    write_carried(line, calendar::rows::row_of(lunation).carry(count));
 }
 
 // The month after, and the month before.
@@ -114,20 +118,14 @@ pub fn ask_next(lunation: u64)
     requires { ⌜ lunation < roundMonths ⌝ }
 {
     let line = Line::new().text(b"next").number(lunation);
-    match calendar::rows::row_of(lunation).next() {
-        RowAnswer::Answered(row) => fields::with_carried_row(line.text(b" ->"), row).write(),
-        RowAnswer::Refused(refusal) => line.refuse(refusal),
-    }
+    write_carried(line, calendar::rows::row_of(lunation).next());
 }
 
 pub fn ask_back(lunation: u64)
     requires { ⌜ lunation < roundMonths ⌝ }
 {
     let line = Line::new().text(b"back").number(lunation);
-    match calendar::rows::row_of(lunation).back() {
-        RowAnswer::Answered(row) => fields::with_carried_row(line.text(b" ->"), row).write(),
-        RowAnswer::Refused(refusal) => line.refuse(refusal),
-    }
+    write_carried(line, calendar::rows::row_of(lunation).back());
 }
 
 // A row with one field changed, which no carry and no step may take.
