@@ -4,7 +4,7 @@
 use mathlib.Core.Path.{_≡_, refl}
 use mathlib.Core.Bool.{Bool, true, false, _&&_}
 use mathlib.Core.List.{List}
-use Prim.Native.Nat.{ℕ, zero, suc, _+_, _-_, _*_, _/_, _%_, _≤_, _<_, min}
+use Prim.Native.Nat.{ℕ, zero, suc, _+_, _-_, _*_, _/_, _%_, _≤_, min}
 use native.Mathlib.Nat.{mul-le-mul-left}
 use native.Mathlib.Omega.{arith}
 use lib.Dec as D
@@ -15,7 +15,7 @@ use Rattle.reckoning.specs.Search.{pick}
 use Rattle.reckoning.proofs.Searches.{all, all-at, both-left, both-right}
 use Rattle.units.specs.Xinghe.{N, C, P, T}
 use Rattle.anomaly.specs.Rates.{printed, sumOf}
-use Rattle.anomaly.specs.Amounts.{sizedOf, amountOf, raises, change, changed, Lowers, Day, correctionOn}
+use Rattle.anomaly.specs.Amounts.{sizedOf, amountOf, raises, changed, Lowers, Day, correctionOn}
 use Rattle.anomaly.specs.Corrections.{correctionAt}
 
 -- the bound on a correction of that sign

@@ -1,16 +1,15 @@
 -- The corrected instants, and the anomaly in halves and whole.
 -- Assumes nothing.
-use mathlib.Core.Path.{_≡_, refl}
+use mathlib.Core.Path.{_≡_}
 use mathlib.Core.Bool.{Bool, true, false}
 use Prim.Native.Nat.{ℕ, zero, suc, _+_, _-_, _*_, _/_, _%_, _≤_, _<_}
 use native.Mathlib.Omega.{arith}
 use lib.Dec.{le→leb}
-use lib.IntN.{ℤ, pos, negsuc, negℤ}
+use lib.IntN.{pos, negsuc, negℤ}
 use lib.Signed.{_≤ℤ_}
 use Rattle.reckoning.specs.Search.{pick}
 use Rattle.units.specs.Xinghe.{N, P, T}
 use Rattle.anomaly.specs.Rates.{printed}
-use Rattle.anomaly.specs.Amounts.{signedOf}
 use Rattle.anomaly.specs.Corrections.{anomalyAt, correctionAt, later, earlier, moved, correctedAt, correctionsOf}
 use Rattle.anomaly.specs.declared.amounts.Amount.{Amount}
 use Rattle.anomaly.specs.declared.Corrected.{Corrected}

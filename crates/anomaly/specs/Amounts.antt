@@ -5,7 +5,7 @@ use mathlib.Core.List.{List}
 use Prim.Native.Nat.{ℕ, suc, _+_, _-_, _*_, _/_, _≤_, _<_}
 use mathlib.Core.Path.{_≡_}
 use lib.Dec.{T, leb, eqb}
-use lib.IntN.{ℤ, pos, negsuc, negℤ, natAbs}
+use lib.IntN.{ℤ, pos, negsuc, negℤ}
 use lib.ListN.{getD}
 use Rattle.reckoning.specs.Search.{pick}
 use Rattle.units.specs.Xinghe.{N, C}

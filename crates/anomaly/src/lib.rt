@@ -4,10 +4,9 @@ use units::Xinghe;
 use units::remainder::DayCarry;
 use units::remainder::DayRemainder;
 ghost use mathlib.Core.Path.{_≡_};
-ghost use Prim.Native.Nat.{_+_, _*_, _≤_, _<_};
-ghost use Rattle.units.specs.Xinghe.{P, roundMonths};
+ghost use Prim.Native.Nat.{_+_, _*_, _<_};
+ghost use Rattle.units.specs.Xinghe.{P};
 ghost use Rattle.anomaly.specs.Rates.{printed};
-ghost use Rattle.anomaly.specs.Amounts.{signedOf};
 ghost use Rattle.anomaly.specs.Corrections.{CorrectionBound, anomalyAt, correctionAt, moved, correctedAt, correctionsOf};
 use crate::amounts::Amount;
 

@@ -4,8 +4,7 @@ use mathlib.Core.Path.{_≡_, _∙_, refl, sym, ap}
 use Prim.Native.Nat.{ℕ, suc, _+_, _-_, _<_, _≤_}
 use native.Mathlib.Omega.{arith}
 use borrow.Author.Tests.{lt-ltb}
-use lib.Dec.{T}
-use Rattle.reckoning.specs.Search.{pick, between}
+use Rattle.reckoning.specs.Search.{between}
 use Rattle.reckoning.specs.Means.{newMoon}
 use Rattle.reckoning.specs.Dates.{monthOf}
 use Rattle.reckoning.proofs.Searches.{chosen, inside, between-low, between-high}

@@ -3,17 +3,19 @@
 use mathlib.Core.Path.{_≡_, refl, sym, _∙_}
 use mathlib.Core.Logic.{_⊎_, ⊎-elim, _↔_}
 use mathlib.Core.Bool.{Bool}
-use Prim.Native.Nat.{ℕ, suc, _+_, _-_, _*_, _/_, _%_, _≤_, _<_}
+use Prim.Native.Nat.{ℕ, suc, _+_, _-_, _*_, _/_, _≤_, _<_}
 use native.Mathlib.Omega.{arith}
 use lib.Dec.{T, leb, le→leb, leb→le}
 use borrow.Author.Tests.{le-leb, lt-leb}
-use Rattle.reckoning.specs.Search.{pick, firstFrom}
+use Rattle.reckoning.specs.Search.{pick, between, firstFrom}
+use Rattle.reckoning.specs.Instants.{instants, instantIn}
 use Rattle.reckoning.specs.Rule.{monthCount, isLeap, leapPlace}
-use Rattle.reckoning.proofs.Searches.{le-or-lt, first-is}
+use Rattle.reckoning.proofs.Searches.{le-or-lt, first-is, between-low, between-high}
 use Rattle.reckoning.proofs.Leaps.{one-term, leap-holds-none, Common, Long, common, long, two-kinds}
 use Rattle.reckoning.proofs.Chapters.{common-year, long-year, leap-place}
 use Rattle.lunisolar.specs.Calendars.{leapRemainder}
-use Rattle.units.specs.Xinghe.{xinghe, means, rule, chapterMonths, chapterYears, chapterLeaps}
+use Rattle.sun.specs.Solstices.{solsticeOf}
+use Rattle.units.specs.Xinghe.{N, D, P, xinghe, means, rule, chapterMonths, chapterYears, chapterLeaps}
 use Rattle.units.proofs.Sound.{sound, laws}
 use Rattle.calendar.specs.Heads.{headOf, yearHead}
 use Rattle.calendar.specs.declared.YearHead.{YearHead}
@@ -27,6 +29,18 @@ solstice-month n head e m =
     let y : ℕ = n - 1 in
     let b : head .before ≡ rule .before y = rw (head-found n head e .is-head) in
     (λ t. laws .only m (12 * y) t ∙ sym (laws .opens y) ∙ sym b, λ q. rw (q, b, laws .opens y) (laws .held (12 * y)))
+
+-- in the head's own figures: the solstice, over D, lies no earlier than that month's new moon, over N, and earlier than the next
+pub solstice-within : (n : ℕ) (head : YearHead) → HeadAnswer.Answered head ≡ yearHead n →
+    (let s = head .solstice .day * D + head .solstice .remainder .parts in (head .before * P * D ≤ s * N) × (s * N < suc (head .before) * P * D))
+unfolding headOf solsticeOf instants instantIn
+solstice-within n head e =
+    let y : ℕ = n - 1 in
+    let b : ℕ = rule .before y in
+    let t : T (between (b * P * (12 * D)) (12 * y * P * N) (suc b * P * (12 * D))) = rw (laws .opens y) (laws .held (12 * y)) in
+    let lo = between-low (b * P * (12 * D)) (12 * y * P * N) (suc b * P * (12 * D)) t in
+    let hi = between-high (b * P * (12 * D)) (12 * y * P * N) (suc b * P * (12 * D)) t in
+    rw (head-found n head e .is-head) (omega (arith, lo), omega (arith, hi))
 
 -- each month holds at most one middle term
 pub one-middle-term : (m i j : ℕ) → T (rule .holds m i) → T (rule .holds m j) → i ≡ j

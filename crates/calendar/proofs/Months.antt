@@ -1,14 +1,14 @@
 -- The months of the round: month to year and place and back, and the treatise's monthly addition.
 -- Assumes nothing.
-use mathlib.Core.Path.{_≡_, _∙_, refl, sym, ap}
-use Prim.Native.Nat.{ℕ, suc, _+_, _-_, _<_, _≤_}
+use mathlib.Core.Path.{_≡_, _∙_, sym, ap}
+use Prim.Native.Nat.{ℕ, suc, _-_, _<_}
 use native.Mathlib.Omega.{arith}
 use Rattle.reckoning.specs.Rule.{yearOf, placeOf}
 use Rattle.reckoning.proofs.Rows.{month-back, place-in}
 use Rattle.lunisolar.proofs.Laws.{lunation-at}
 use Rattle.units.specs.Xinghe.{xinghe, rule, roundMonths}
 use Rattle.units.proofs.Sound.{laws}
-use Rattle.moon.specs.NewMoons.{newMoonOf, monthlyAddition}
+use Rattle.moon.specs.NewMoons.{monthlyAddition}
 use Rattle.moon.specs.declared.NewMoon.{NewMoon}
 use Rattle.moon.proofs.Addition.{next-new-moon}
 use Rattle.calendar.specs.Rows.{rowOf, rowFor, monthRow}

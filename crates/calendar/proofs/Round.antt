@@ -1,14 +1,14 @@
 -- The months and days of the round: where a month stands, and how many there are.
 -- Assumes nothing.
 use mathlib.Core.Path.{_≡_, _∙_, refl, sym, ap}
-use mathlib.Core.Logic.{_⊎_, ⊎-elim}
+use mathlib.Core.Logic.{⊎-elim}
 use mathlib.Core.Bool.{Bool, true, false}
-use Prim.Native.Nat.{ℕ, suc, _+_, _-_, _*_, _/_, _%_, _≤_, _<_}
+use Prim.Native.Nat.{ℕ, suc, _+_, _-_, _*_, _/_, _≤_, _<_}
 use native.Mathlib.Omega.{arith}
 use borrow.Author.Tests.{le-leb, lt-leb}
 use lib.Dec.{leb}
 use Rattle.reckoning.specs.Search.{pick}
-use Rattle.reckoning.specs.Rule.{monthCount, leapPlace, isLeap, yearOf, placeOf}
+use Rattle.reckoning.specs.Rule.{leapPlace, isLeap, yearOf, placeOf}
 use Rattle.reckoning.specs.Figures.{leapAt, numberAt}
 use Rattle.reckoning.specs.Means.{newMoon, newMoonRest}
 use Rattle.reckoning.specs.Dates.{monthOf}

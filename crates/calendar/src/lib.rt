@@ -3,7 +3,6 @@
 use refusal::Refusal;
 use sun::Solstice;
 use units::remainder::DayRemainder;
-ghost use mathlib.Core.Path.{_≡_};
 
 pub mod answers;
 pub mod carries;

@@ -1,10 +1,9 @@
 -- The tests of a cut and a point, by what the code has found.
 -- Assumes nothing.
 use mathlib.Core.Path.{_≡_}
-use mathlib.Core.Bool.{true, false, _&&_, and-false}
+use mathlib.Core.Bool.{true, and-false}
 use Prim.Native.Nat.{ℕ, _≤_, _<_}
 use borrow.Author.Tests.{lt-ltb, le-ltb, ne-eqb}
-use lib.Dec.{ltb, eqb}
 use Rattle.refusal.specs.declared.Refusal.{Refusal}
 use Rattle.sun.specs.Points.{isCut, pointOf}
 use Rattle.ephemeris.specs.Jobs.{pointIn}

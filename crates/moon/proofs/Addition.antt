@@ -7,7 +7,7 @@ use native.Mathlib.Omega.{arith}
 use borrow.Author.Tests.{le-leb, lt-leb}
 use Rattle.reckoning.specs.Means.{newMoon, newMoonRest}
 use Rattle.reckoning.proofs.Searches.{le-or-lt}
-use Rattle.units.specs.Xinghe.{N, P, means, monthlyParts}
+use Rattle.units.specs.Xinghe.{N, P, monthlyParts}
 use Rattle.moon.specs.NewMoons.{newMoonOf, monthlyAddition}
 
 pub next-new-moon : (m : ℕ) → newMoonOf (suc m) ≡ monthlyAddition (newMoonOf m)

@@ -1,7 +1,7 @@
 -- The phases agree with the new moons, and keep their order.
 -- Assumes nothing.
 use mathlib.Core.Path.{_≡_}
-use Prim.Native.Nat.{ℕ, suc, _+_, _*_, _/_, _%_, _≤_, _<_}
+use Prim.Native.Nat.{ℕ, suc, _+_, _*_, _≤_, _<_}
 use native.Mathlib.Omega.{arith}
 use Rattle.reckoning.specs.Means.{newMoon, newMoonRest}
 use Rattle.units.specs.Xinghe.{N, P}

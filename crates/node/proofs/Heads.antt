@@ -1,21 +1,20 @@
 -- The eras' heads and the distances since the node.
 -- Assumes nothing.
 use mathlib.Core.Path.{_≡_, refl}
-use mathlib.Core.Bool.{Bool, true}
+use mathlib.Core.Bool.{true}
 use mathlib.Core.Logic.{⊎-elim}
 use mathlib.Core.List.{[], _∷_, map}
 use Prim.Native.Nat.{ℕ, _+_, _-_, _*_, _/_, _%_, _≤_, _<_}
 use native.Mathlib.Nat.{mod-add-mod}
 use native.Mathlib.Omega.{arith}
-use lib.Dec.{T, eqb, eqb→eq, leb}
+use lib.Dec.{eqb, eqb→eq}
 use borrow.Author.Tests.{le-leb, lt-leb}
-use Rattle.reckoning.specs.Search.{pick}
-use Rattle.reckoning.proofs.Searches.{all, all-at, le-or-lt}
+use Rattle.reckoning.proofs.Searches.{all-at, le-or-lt}
 use Rattle.lunisolar.proofs.Laws.{before-is}
 use Rattle.units.specs.Xinghe.{xinghe, rule, N, P, M, eraYears, eraMonths, roundMonths}
 use Rattle.units.proofs.Sound.{sound}
 use Rattle.node.specs.Eclipses.{distanceOf, eclipseAt, eclipseOf, noEclipse, nodeAt}
-use Rattle.node.specs.Sides.{heads, headIn, ownHead, distance, passed}
+use Rattle.node.specs.Sides.{heads, headIn, ownHead, distance}
 use Rattle.node.specs.Nodes.{nodesOf}
 
 -- an era's head is the first month of its first year

@@ -3,14 +3,13 @@
 -- Assumes nothing.
 use mathlib.Core.Path.{_≡_, sym, ap}
 use mathlib.Core.Logic.{⊎-elim}
-use mathlib.Core.Bool.{Bool}
 use Prim.Native.Nat.{ℕ, zero, suc, _+_, _-_, _*_, _/_, _%_, _≤_, _<_}
 use native.Mathlib.Omega.{arith}
 use native.Mathlib.Numerals.{add-one}
 use native.Mathlib.Nat.{mul-suc, div-add-mod', mod-lt, le-of-mul-le-mul-left, le-of-mul-le-mul-right, lt-of-mul-lt-mul-right, mul-le-mul-left, mul-le-mul-right}
 use lib.Dec.{T}
 use Rattle.reckoning.specs.Means.{Means}
-use Rattle.reckoning.specs.Rule.{Rule, yearOf, leapPlace, monthCount}
+use Rattle.reckoning.specs.Rule.{yearOf, leapPlace}
 use Rattle.reckoning.specs.Instants.{instantIn, instants, ChapterBound}
 use Rattle.reckoning.proofs.Searches.{between-T, between-low, between-high, le-or-lt}
 use Rattle.reckoning.proofs.Rates.{rate, rate-is, rate-ge, rate-lt, rate-low, rate-high, rate-zero, rate-gains, rate-within}

@@ -7,7 +7,7 @@ use Prim.Native.Nat.{ℕ, suc, _+_, _-_, _*_, _≤_, _<_}
 use native.Mathlib.Omega.{arith}
 use native.Mathlib.Nat.{mul-suc}
 use lib.Dec.{T, ltb, T-not, not-T, lt→ltb, ltb→lt}
-use Rattle.reckoning.specs.Search.{any, firstFrom}
+use Rattle.reckoning.specs.Search.{any}
 use Rattle.reckoning.specs.Rule.{Rule, monthCount, isLeap, leapPlace}
 use Rattle.reckoning.proofs.Searches.{first-is, first-none, any-of, any-gives, least, le-or-lt, same-or, not-ltb}
 use Rattle.reckoning.proofs.Climbs.{Climbs, climb-by, climb-lt}

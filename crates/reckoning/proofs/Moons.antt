@@ -1,7 +1,7 @@
 -- Mean new moons, over any constants with months of 29 to 30 days.
 -- Assumes nothing.
-use mathlib.Core.Path.{_≡_, ap}
-use Prim.Native.Nat.{ℕ, suc, _+_, _-_, _*_, _/_, _%_, _≤_, _<_}
+use mathlib.Core.Path.{_≡_}
+use Prim.Native.Nat.{ℕ, suc, _+_, _-_, _*_, _/_, _≤_, _<_}
 use native.Mathlib.Omega.{arith}
 use native.Mathlib.Numerals.{add-one}
 use native.Mathlib.Nat.{div-add-mod', mod-lt}
@@ -12,15 +12,6 @@ use Rattle.reckoning.proofs.Rates.{rate, rate-is, rate-ge, rate-lt, rat
 use Rattle.reckoning.proofs.Days.{month-is}
 
 module _ (M : Means) (b : MonthBound M) where
-  -- day and remainder together are the month's parts
-  pub parts : (m : ℕ) → newMoon M m * M .monthDen + newMoonRest M m ≡ m * M .monthNum
-  unfolding newMoon newMoonRest
-  parts m = div-add-mod' (m * M .monthNum) (M .monthDen)
-
-  rest-lt : (m : ℕ) → newMoonRest M m < M .monthDen
-  unfolding newMoonRest
-  rest-lt m = mod-lt (m * M .monthNum) (b .den)
-
   pub moons-climb : Climbs (newMoon M)
   unfolding newMoon rate
   moons-climb =

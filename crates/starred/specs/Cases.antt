@@ -10,7 +10,6 @@ use Rattle.moon.specs.NewMoons.{lengthOf}
 use Rattle.calendar.specs.Heads.{yearHead}
 use Rattle.calendar.specs.Rows.{monthRow}
 use Rattle.calendar.specs.declared.HeadAnswer.{HeadAnswer}
-use Rattle.calendar.specs.declared.MonthRow.{MonthRow}
 use Rattle.calendar.specs.declared.RowAnswer.{RowAnswer}
 use Rattle.node.specs.declared.Side.{Side}
 use Rattle.ephemeris.specs.Jobs.{nodesAt, correctionsAt}

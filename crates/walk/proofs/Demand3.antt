@@ -11,8 +11,8 @@ use native.Mathlib.Numerals.{add-one}
 use borrow.Author.Tests.{lt-ltb}
 use lib.IntN.{ℤ, pos, negℤ, _+ℤ_}
 use Rattle.refusal.specs.declared.Refusal.{Refusal}
-use Rattle.walking.specs.Walk.{answered, refused, genuine, carry, walk, along}
-use Rattle.walking.specs.Paper.{finalMonth, paper}
+use Rattle.walking.specs.Walk.{genuine, carry, walk, along}
+use Rattle.walking.specs.Paper.{finalMonth, answeredSteps, paper}
 use Rattle.walking.proofs.Walks.{Inside, genuine-row, row-genuine, four}
 use Rattle.walking.proofs.Theorem as over-any
 use Rattle.units.specs.Xinghe.{roundMonths}
@@ -40,7 +40,9 @@ pub record Walking (r : MonthRow) (cs : List ℤ) : Type 0 where
   pub in-round : monthAfter r cs < roundMonths
   pub row : walked r cs .row ≡ rowOf (monthAfter r cs)
   pub sum : pos (monthAfter r cs) ≡ pos (r .lunation) +ℤ walked r cs .sum
-  -- which is the row that one carry of the first row by that sum gives
+  -- as many counts are answered as 01's walk answers
+  pub counted : walked r cs .answered ≡ answeredSteps roundMonths (r .lunation) cs
+  -- and the row is the one that one carry of the first row by that sum gives
   pub once : carried r (walked r cs .sum) ≡ RowAnswer.Answered (walked r cs .row)
   -- a carry that follows is refused exactly when it would end outside the round, then under 5, and the walk stays where it was
   pub refused-when : (c : ℤ) → (carried (walked r cs .row) c ≡ RowAnswer.Refused Refusal.Carry) ↔ (Inside roundMonths (pos (monthAfter r cs) +ℤ c) → ⊥)
@@ -90,6 +92,7 @@ walk-of r g cs =
       in-round = w .in-round;
       row = w .row;
       sum = w .sum;
+      counted = w .hits;
       once = ap shown (w .once);
       refused-when = λ c. (λ e. w .refused-when c .0 (shown-refused (carry months here c) Refusal.Carry (sym e)), λ out. ap shown (w .refused-when c .1 out));
       stays = λ c e h. w .stays-put c e (shown-refused (carry months here c) e (sym h));

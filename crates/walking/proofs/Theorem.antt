@@ -1,7 +1,7 @@
 -- Walking and direct working are one thing: demand 3, over any lawful calendar of a round, any genuine row and any list of counts.
 -- Assumes nothing.
 use Prim.Native.Nat.{ℕ, _<_}
-use mathlib.Core.Path.{_≡_, refl, sym, ap, _∙_}
+use mathlib.Core.Path.{_≡_}
 use mathlib.Core.Bool.{Bool, true, false}
 use mathlib.Core.List.{List, [], _∷_, _++_}
 use mathlib.Core.Logic.{_↔_}
@@ -10,7 +10,7 @@ use borrow.Author.Tests.{lt-ltb}
 use lib.IntN.{ℤ, pos, negℤ, natAbs, _+ℤ_}
 use Rattle.reckoning.specs.Search.{pick}
 use Rattle.refusal.specs.declared.Refusal.{Refusal}
-use Rattle.walking.specs.Walk.{Calendar, Answer, answered, refused, inRound, genuine, carry, walk, along, total, number}
+use Rattle.walking.specs.Walk.{Calendar, answered, refused, inRound, genuine, carry, walk, along, total, number}
 use Rattle.walking.specs.Paper.{finalMonth, answeredSteps, paper}
 use Rattle.walking.proofs.Walks.{Lawful, Inside, Kept, kept, stays, genuine-row, row-genuine, nought, refused-outside, back}
 

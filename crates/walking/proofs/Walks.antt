@@ -1,6 +1,6 @@
 -- What holds of carries and walks, of any calendar of a round that keeps three laws.
 -- Assumes nothing.
-use Prim.Native.Nat.{ℕ, suc, _+_, _<_, zero-le}
+use Prim.Native.Nat.{ℕ, _+_, _<_, zero-le}
 use mathlib.Core.Path.{_≡_, refl, sym, ap, _∙_}
 use mathlib.Core.Bool.{Bool, true, false, _&&_}
 use mathlib.Core.List.{List, [], _∷_, _++_}
@@ -12,7 +12,7 @@ use lib.IntN.{ℤ, pos, negsuc, natAbs, negℤ, _+ℤ_, +ℤ-idl, +ℤ-idr, +ℤ
 use lib.Signed.{_≤ℤ_, _<ℤ_}
 use Rattle.reckoning.specs.Search.{pick}
 use Rattle.refusal.specs.declared.Refusal.{Refusal}
-use Rattle.walking.specs.Walk.{Calendar, Answer, answered, refused, inRound, genuine, landing, carry, stand, counted, walk, along, total, number}
+use Rattle.walking.specs.Walk.{Calendar, Answer, answered, refused, inRound, genuine, landing, carry, stand, walk, along, total, number}
 use Rattle.walking.specs.Paper.{next, finalMonth, answeredSteps, paper}
 
 -- z is a month's number: 0 ≤ z < size, in whole numbers
@@ -156,7 +156,7 @@ module _ {R : Type 0} (C : Calendar R) where
               hits = rw (s .gives) (ap (λ (n : ℕ). 0 + n) (t .hits ∙ rw (s .stay)) ∙ counts (sym (s .test)));
             }
 
-    -- DEMAND 3, of any genuine row and any list of counts
+    -- each carry of a genuine row
     module _ (r : R) (g : genuine C r ≡ true) where
       from : C .month r < C .size
       from = genuine-row r g .0

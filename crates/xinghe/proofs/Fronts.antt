@@ -1,12 +1,12 @@
 -- The lent list with the year's first k rows at its front: how long it is, and what the numbers of one row more do to it.
 -- Assumes nothing.
-use mathlib.Core.List.{List, [], _∷_, _++_, append-nil}
+use mathlib.Core.List.{List, _++_}
 use mathlib.Core.Path.{_≡_, refl, sym, _∙_, ap}
 use Prim.Native.Nat.{ℕ, zero, suc, _+_, _*_, _/_, _≤_}
 use native.Mathlib.Nat.{add-zero, zero-add}
 use native.Mathlib.Numerals.{add-one}
 use native.Mathlib.Omega.{arith}
-use lib.ListN.{length, take, drop, length-append, length-drop}
+use lib.ListN.{length, drop, length-append, length-drop}
 use lib.Seq.{paste, take-at, drop-append-add, drop-drop}
 use Rattle.year_list.specs.Filled.{rowAt, rowsFrom, written}
 use Rattle.year_list.proofs.Fronts.{within}

@@ -1,7 +1,7 @@
 -- What stands in the lent list afterwards: each of the year's rows by place, and past them what stood there; and the numbers returned.
 -- Assumes nothing.
-use mathlib.Core.Path.{_≡_, _∙_, refl, ap}
-use mathlib.Core.List.{List, [], _∷_, _++_}
+use mathlib.Core.Path.{_≡_, _∙_, ap}
+use mathlib.Core.List.{List, _++_}
 use Prim.Native.Nat.{ℕ, zero, suc, _+_, _-_, _≤_, _<_}
 use native.Mathlib.Nat.{add-zero, zero-add}
 use native.Mathlib.Omega.{arith}
@@ -19,7 +19,7 @@ use Rattle.lunisolar.proofs.Laws.{year-at, lunation-at}
 use Rattle.units.specs.Xinghe.{xinghe, rule, roundYears}
 use Rattle.calendar.specs.Heads.{headOf, headFor, yearHead}
 use Rattle.calendar.specs.Rows.{rowOf, rowFor}
-use Rattle.calendar.specs.Answers.{rowValues, zeroRow}
+use Rattle.calendar.specs.Answers.{zeroRow}
 use Rattle.calendar.specs.declared.YearHead.{YearHead}
 use Rattle.calendar.specs.declared.HeadAnswer.{HeadAnswer}
 use Rattle.calendar.specs.declared.MonthRow.{MonthRow}

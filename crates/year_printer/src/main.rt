@@ -2,6 +2,7 @@
 use libc::STDIN_FILENO;
 use libc::STDOUT_FILENO;
 use year_text::reader::Reader;
+use year_text::reader::Step;
 
 enum Input {
     Byte(u8),
@@ -31,23 +32,18 @@ fn next_byte() -> Input {
     Input::Failed
 }
 
-// Reads until the line ends or is settled. A proved loop has to end, and nothing says that an input does: the loop counts its turns down from
-// a number that no run uses up.
+// What `year_text::reader::year_asked` does with a list of bytes, with bytes as they come. A proved loop has to end, and nothing says that an
+// input does: the loop counts its turns down from a number that no run uses up.
 fn read_year() -> u64 {
     let mut reader = Reader::new();
     let mut turns = u64::MAX;
     while turns > 0 {
         turns -= 1;
         match next_byte() {
-            Input::Byte(byte) => {
-                if byte == b'\n' {
-                    return reader.year;
-                }
-                reader = reader.feed(byte);
-                if reader.settled() {
-                    return reader.year;
-                }
-            }
+            Input::Byte(byte) => match reader.step(byte) {
+                Step::Year(year) => return year,
+                Step::More(next) => reader = next,
+            },
             Input::End => return reader.year,
             Input::Interrupted => {}
             Input::Failed => return NO_YEAR,

@@ -1,17 +1,16 @@
 -- Decimal digits: how many there are, that they are digits with no leading zero, and that reading undoes writing.
 -- Assumes nothing.
-use mathlib.Core.Path.{_≡_, refl, sym, ap, _∙_}
-use mathlib.Core.Bool.{Bool, true, _&&_}
+use mathlib.Core.Path.{_≡_, sym, ap, _∙_}
+use mathlib.Core.Bool.{true}
 use mathlib.Core.Logic.{⊎-elim}
 use mathlib.Core.List.{List, [], _∷_, _++_}
-use Prim.Native.Nat.{ℕ, zero, suc, _+_, _-_, _*_, _/_, _%_, _≤_, _<_}
+use Prim.Native.Nat.{ℕ, zero, suc, _+_, _*_, _/_, _%_, _≤_, _<_}
 use native.Mathlib.Omega.{arith}
-use lib.Dec.{ltb, lit≤}
+use lib.Dec.{lit≤}
 use lib.ListN.{length, getD, length-append, List·getD-append}
 use borrow.Author.Tests.{lt-ltb, le-ltb}
-use Rattle.reckoning.specs.Search.{pick}
 use Rattle.reckoning.proofs.Searches.{le-or-lt}
-use Rattle.year_text.specs.Decimal.{decimalUpTo, decimal, isDigit, allDigits, valueFrom, value}
+use Rattle.year_text.specs.Decimal.{decimalUpTo, decimal, allDigits, valueFrom, value}
 use Rattle.year_text.proofs.Readings.{all-more, value-more, digit}
 
 -- ten to the f + 1

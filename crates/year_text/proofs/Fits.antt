@@ -1,18 +1,19 @@
 -- The printer's text fits its buffer; what is no year has the text of any other that is none; and when a line is settled.
 -- Assumes nothing.
-use mathlib.Core.Path.{_≡_, refl, sym, _∙_}
+use mathlib.Core.Path.{_≡_, refl, sym, ap, _∙_}
 use mathlib.Core.Bool.{Bool, true, false, _&&_}
 use mathlib.Core.Logic.{⊎-elim}
-use mathlib.Core.List.{List, [], _∷_, _++_}
+use mathlib.Core.List.{List, [], _∷_, _++_, append-assoc, append-nil}
 use Prim.Native.Nat.{ℕ, suc, _+_, _-_, _*_, _≤_, _<_, min}
 use native.Mathlib.Omega.{arith}
 use borrow.Author.Tests.{ltb-true}
+use lib.Dec.{eqb}
 use lib.ListN.{length, length-append}
 use Rattle.reckoning.specs.Search.{pick}
 use Rattle.reckoning.proofs.Searches.{le-or-lt, below, beyond}
 use Rattle.refusal.specs.Numbers.{numberOf}
 use Rattle.lunisolar.specs.Calendars.{yearAt}
-use Rattle.units.specs.Xinghe.{xinghe, roundYears}
+use Rattle.units.specs.Xinghe.{roundYears}
 use Rattle.calendar.specs.Heads.{headFor, yearHead}
 use Rattle.calendar.specs.declared.HeadAnswer.{HeadAnswer}
 use Rattle.calendar.specs.declared.MonthRow.{MonthRow}
@@ -20,9 +21,11 @@ use Rattle.calendar.proofs.Round.{head-months}
 use Rattle.year_list.specs.Filled.{rowsFrom}
 use Rattle.year_list.proofs.Fronts.{rows-length}
 use Rattle.year_text.specs.Decimal.{isDigit, allDigits, valueFrom, value}
-use Rattle.year_text.specs.Lines.{pastRound, notDigits, readOf, isSettled, yearOfLine}
-use Rattle.year_text.specs.declared.reader.Reader.{Reader}
+use Rattle.year_text.specs.Lines.{pastRound, notDigits, readOf, fed, isSettled, lineOf, yearOfLine, stepped, yearOr, asked}
 use Rattle.year_text.specs.Text.{field, headLine, rowLines, refusedWord, textFor, textOf}
+use Rattle.year_text.specs.declared.reader.Reader.{Reader}
+use Rattle.year_text.specs.declared.reader.Step.{Step}
+use Rattle.year_text.proofs.Readings.{fed-read, line-year}
 use Rattle.year_text.proofs.Lengths.{field-length, head-length, lines-length}
 
 pub text-fits : (n : ℕ) → length (textOf n) ≤ 2048
@@ -35,7 +38,7 @@ text-fits n = go (yearHead n) refl
         omega (arith, length-append (headLine n head) (rowLines rows), head-length n head, lines-length rows, rows-length n 0 (head .months), head-months n head e)
     go (HeadAnswer.Refused x) e = omega (arith, length-append refusedWord (field (numberOf x) 10), field-length (numberOf x) 10)
 
--- NO YEAR has the text of any other that is none
+-- WHAT IS NO YEAR has the text of year 0, which is none
 pub no-year : (n : ℕ) → roundYears < n → textOf n ≡ textOf 0
 unfolding yearAt headFor textFor
 no-year n h = rw (beyond 1 n (suc roundYears) (omega arith), below 1 0 (suc roundYears) (omega arith))
@@ -82,3 +85,29 @@ settled-text bs cs e = go (allDigits bs) refl e
         let past : roundYears < min (value bs) pastRound = ltb-true roundYears (min (value bs) pastRound) h in
         longer (allDigits (bs ++ cs)) (omega (arith, past)) ∙ sym (no-year (min (value bs) pastRound) past)
     go false q h = rw (not-all bs cs q)
+
+-- a line that has ended
+ended : (bs : List ℕ) → textOf (readOf bs .year) ≡ textOf (yearOfLine (bs ++ []))
+ended bs = rw (append-nil bs, line-year bs) (capped-text (yearOfLine bs))
+
+-- AS IT IS READ: the year that is asked byte by byte has the text of the year that the first line asks for
+read-line : (bs cs : List ℕ) → textOf (asked (readOf bs) cs) ≡ textOf (yearOfLine (bs ++ lineOf cs))
+unfolding asked lineOf stepped
+read-line bs [] = ended bs
+read-line bs (c ∷ cs) = go (eqb c 10) (isSettled (fed (readOf bs) c)) refl (read-line (bs ++ c ∷ []) cs)
+  where
+    after : Reader → ℕ
+    after t = asked t cs
+
+    longer : (bs ++ c ∷ []) ++ lineOf cs ≡ bs ++ c ∷ lineOf cs
+    longer = append-assoc bs (c ∷ []) (lineOf cs)
+
+    go : (n t : Bool) → isSettled (fed (readOf bs) c) ≡ t → textOf (asked (readOf (bs ++ c ∷ [])) cs) ≡ textOf (yearOfLine ((bs ++ c ∷ []) ++ lineOf cs)) →
+        textOf (yearOr (pick n (Step.Year (readOf bs .year)) (pick t (Step.Year (fed (readOf bs) c .year)) (Step.More (fed (readOf bs) c)))) after) ≡ textOf (yearOfLine (bs ++ pick n [] (c ∷ lineOf cs)))
+    go true true e on = ended bs
+    go true false e on = ended bs
+    go false true e on = rw (fed-read bs c) (sym (settled-text (bs ++ c ∷ []) (lineOf cs) (rw (fed-read bs c) at e)) ∙ ap (λ (l : List ℕ). textOf (yearOfLine l)) longer)
+    go false false e on = rw (fed-read bs c) (on ∙ ap (λ (l : List ℕ). textOf (yearOfLine l)) longer)
+
+pub asked-text : (input : List ℕ) → textOf (asked (readOf []) input) ≡ textOf (yearOfLine (lineOf input))
+asked-text input = read-line [] input

@@ -2,7 +2,6 @@
 -- Assumes nothing.
 use mathlib.Core.Path.{_≡_, refl, sym, ap, _∙_}
 use mathlib.Core.Bool.{Bool, true, false, _&&_}
-use mathlib.Core.Logic.{⊎-elim}
 use mathlib.Core.List.{List, [], _∷_, _++_, append-assoc, append-nil}
 use Prim.Native.Nat.{ℕ, suc, _+_, _-_, _*_, _≤_, _<_, min}
 use native.Mathlib.Numerals.{add-one}
@@ -10,11 +9,12 @@ use native.Mathlib.Omega.{arith}
 use borrow.Author.Tests.{eq-eqb, ne-eqb}
 use lib.ListN.{length, getD, take, drop, drop-of-length-le}
 use lib.Seq.{drop-cons, take-suc}
-use Rattle.reckoning.specs.Search.{pick, between}
+use Rattle.reckoning.specs.Search.{pick}
 use Rattle.reckoning.proofs.Searches.{below, beyond, inside}
 use Rattle.year_text.specs.Decimal.{isDigit, allDigits, valueFrom, value}
-use Rattle.year_text.specs.Lines.{pastRound, notDigits, readOf, fed, lineOf, yearOfLine}
+use Rattle.year_text.specs.Lines.{pastRound, notDigits, readOf, fed, yearOfLine, stepped, yearOr, asked}
 use Rattle.year_text.specs.declared.reader.Reader.{Reader}
+use Rattle.year_text.specs.declared.reader.Step.{Step}
 
 -- a byte more at the end
 pub all-more : (bs : List ℕ) (b : ℕ) → allDigits (bs ++ b ∷ []) ≡ (allDigits bs && isDigit b)
@@ -72,42 +72,28 @@ pub too-high : (b : ℕ) → 57 < b → isDigit b ≡ false
 unfolding isDigit
 too-high b h = beyond 48 b 58 (omega arith)
 
--- a line that is read byte by byte: what stands before place i, and what is left of the line from there
+-- an input that is read byte by byte: what is left to read, from where it stands, asks for the year of the whole
 pub record Sofar (input : List ℕ) (s : Reader) (i : ℕ) : Type 0 where
   pub index : i ≤ length input
-  pub read : s ≡ readOf (take i input)
-  pub line : lineOf input ≡ take i input ++ lineOf (drop i input)
+  pub same : asked s (drop i input) ≡ asked (readOf []) input
 
 pub sofar-start : (input : List ℕ) (s : Reader) → s ≡ readOf [] → Sofar input s 0
-sofar-start input s e = record { index = omega arith; read = e; line = refl }
+sofar-start input s e = record { index = omega arith; same = rw e }
 
 module _ (input : List ℕ) (s : Reader) (i : ℕ) (f : Sofar input s i) where
-  rest : i < length input → drop i input ≡ getD input i 0 ∷ drop (suc i) input
-  rest h = drop-cons input i 0 h
+  -- one byte more
+  next : i < length input → yearOr (stepped s (getD input i 0)) (λ t. asked t (drop (i + 1) input)) ≡ asked (readOf []) input
+  unfolding asked
+  next h =
+      let rest : drop i input ≡ getD input i 0 ∷ drop (i + 1) input = rw (add-one i) (drop-cons input i 0 h) in
+      ap (asked s) (sym rest) ∙ f .same
 
-  pub sofar-more : (t : Reader) → i < length input → (getD input i 0 ≡ 10 → ⊥) → t ≡ fed s (getD input i 0) → Sofar input t (i + 1)
-  unfolding lineOf
-  sofar-more t h n step =
-      let more : take (suc i) input ≡ take i input ++ (getD input i 0 ∷ []) = take-suc input i 0 h in
-      record {
-        index = omega arith;
-        read = step ∙ ap (λ (r : Reader). fed r (getD input i 0)) (f .read) ∙ fed-read (take i input) (getD input i 0) ∙ rw (add-one i, more);
-        line =
-            f .line
-            ∙ ap (λ (l : List ℕ). take i input ++ lineOf l) (rest h)
-            ∙ rw (ne-eqb (getD input i 0) 10 n, add-one i, more) (sym (append-assoc (take i input) (getD input i 0 ∷ []) (lineOf (drop (suc i) input))));
-      }
+  pub sofar-year : (y : ℕ) → i < length input → Step.Year y ≡ stepped s (getD input i 0) → y ≡ asked (readOf []) input
+  sofar-year y h e = ap (λ (x : Step). yearOr x (λ t. asked t (drop (i + 1) input))) e ∙ next h
 
-  at-line : lineOf (drop i input) ≡ [] → s .year ≡ min (yearOfLine (lineOf input)) pastRound
-  at-line e =
-      ap (λ (x : Reader). x .year) (f .read)
-      ∙ line-year (take i input)
-      ∙ ap (λ (l : List ℕ). min (yearOfLine l) pastRound) (sym (f .line ∙ ap (λ (l : List ℕ). take i input ++ l) e ∙ append-nil (take i input)))
+  pub sofar-more : (t : Reader) → i < length input → Step.More t ≡ stepped s (getD input i 0) → Sofar input t (i + 1)
+  sofar-more t h e = record { index = omega arith; same = ap (λ (x : Step). yearOr x (λ u. asked u (drop (i + 1) input))) e ∙ next h }
 
-  pub sofar-newline : i < length input → getD input i 0 ≡ 10 → s .year ≡ min (yearOfLine (lineOf input)) pastRound
-  unfolding lineOf
-  sofar-newline h e = at-line (ap lineOf (rest h) ∙ rw (eq-eqb (getD input i 0) 10 e))
-
-  pub sofar-end : length input ≤ i → s .year ≡ min (yearOfLine (lineOf input)) pastRound
-  unfolding lineOf
-  sofar-end h = at-line (ap lineOf (drop-of-length-le input h))
+  pub sofar-end : length input ≤ i → s .year ≡ asked (readOf []) input
+  unfolding asked
+  sofar-end h = ap (asked s) (sym (drop-of-length-le input h)) ∙ f .same

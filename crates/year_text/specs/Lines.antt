@@ -8,6 +8,7 @@ use Rattle.reckoning.specs.Search.{pick}
 use Rattle.units.specs.Xinghe.{roundYears}
 use Rattle.year_text.specs.Decimal.{isDigit, allDigits, value}
 use Rattle.year_text.specs.declared.reader.Reader.{Reader}
+use Rattle.year_text.specs.declared.reader.Step.{Step}
 
 -- the line ends at the first newline byte or at the end of the input
 unfoldable pub lineOf : List ℕ → List ℕ
@@ -36,3 +37,16 @@ fed s b = pick (s .valid) (pick (isDigit b) (record { valid = true; year = min (
 -- the line so far can't become a year of the round, whatever follows: it has a byte that is no digit, or its number is past the round
 abbrev pub isSettled : Reader → Bool
 isSettled s = not (s .valid) || ltb roundYears (s .year)
+
+-- what a byte more makes of a line: the year that it asks for, where it ends or is settled, or the state that reads on
+unfoldable pub stepped : Reader → ℕ → Step
+stepped s b = pick (eqb b 10) (Step.Year (s .year)) (pick (isSettled (fed s b)) (Step.Year (fed s b .year)) (Step.More (fed s b)))
+
+-- the year that an input asks for, read byte by byte from a state on; where the input ends, that of the bytes so far
+abbrev pub yearOr : Step → (Reader → ℕ) → ℕ
+yearOr (Step.Year y) f = y
+yearOr (Step.More s) f = f s
+
+unfoldable pub asked : Reader → List ℕ → ℕ
+asked s [] = s .year
+asked s (b ∷ bs) = yearOr (stepped s b) (λ t. asked t bs)

@@ -1,7 +1,7 @@
 -- What the year printer prints (01, "Cases at the edges"): a head line, then per month the place, month number, L or -, day of the sixty,
 -- remainder and length; or `refused` and the number, alone.
 -- Assumes nothing.
-use mathlib.Core.Bool.{Bool, true, false}
+use mathlib.Core.Bool.{Bool}
 use mathlib.Core.List.{List, [], _∷_, _++_}
 use Prim.Native.Nat.{ℕ}
 use Rattle.reckoning.specs.Search.{pick}

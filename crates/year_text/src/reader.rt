@@ -1,9 +1,9 @@
 // Reading a line, fed one byte at a time, in fixed memory.
+use units::Xinghe;
 ghost use mathlib.Core.Path.{_≡_};
 ghost use mathlib.Core.List.{[]};
 ghost use Prim.Native.Nat.{_+_, _*_, _<_, min};
-ghost use Rattle.year_text.specs.Lines.{pastRound, notDigits, readOf, fed, isSettled, lineOf, yearOfLine};
-use units::Xinghe;
+ghost use Rattle.year_text.specs.Lines.{pastRound, notDigits, readOf, fed, isSettled, stepped, asked};
 
 // One past every year of the round, which stands for all that are past it.
 const PAST_ROUND: u64 = Xinghe::YEARS + 1;
@@ -13,6 +13,12 @@ pub struct Reader {
     pub valid: bool,
     // their number, or one past every year where it is more; 0 for a line with any other byte
     pub year: u64,
+}
+
+// What a byte more makes of a line: the year that it asks for, where it ends or is settled, or a reader of the next byte.
+pub enum Step {
+    Year(u64),
+    More(Reader),
 }
 
 impl Reader {
@@ -51,6 +57,19 @@ impl Reader {
     {
         !self.valid | (Xinghe::YEARS < self.year)
     }
+
+    pub fn step(self, byte: u8) -> Step
+        ensures { λ r. ⌜ r ≡ stepped self byte ⌝ }
+    {
+        if byte == b'\n' {
+            return Step::Year(self.year);
+        }
+        let next = self.feed(byte);
+        if next.settled() {
+            return Step::Year(next.year);
+        }
+        Step::More(next)
+    }
 }
 
 fn refused() -> Reader
@@ -78,19 +97,19 @@ fn longer(year: u64, digit: u64) -> u64
     }
 }
 
-// The year that the first line of an input asks for, or one past every year where it is more.
+// The year that an input asks for, byte by byte, as the printer reads it.
 pub fn year_asked(input: &[u8]) -> u64
-    ensures { λ r. ⌜ r ≡ min (yearOfLine (lineOf (now (input .entry)))) pastRound ⌝ }
+    ensures { λ r. ⌜ r ≡ asked (readOf []) (now (input .entry)) ⌝ }
 {
     let mut reader = Reader::new();
     let mut i = 0;
     while i < input.len() {
         let byte = input[i];
-        if byte == 10 {
-            return reader.year;
-        }
-        reader = reader.feed(byte);
         i += 1;
+        match reader.step(byte) {
+            Step::Year(year) => return year,
+            Step::More(next) => reader = next,
+        }
     }
     reader.year
 }

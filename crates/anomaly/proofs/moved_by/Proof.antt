@@ -1,5 +1,5 @@
 use native.Mathlib.Omega.{arith}
-use mathlib.Core.Path.{_≡_, sym, ap}
+use mathlib.Core.Path.{ap}
 use Rattle.units.specs.declared.remainder.DayCarry.{DayCarry}
 use Rattle.anomaly.specs.Corrections.{moved}
 use Rattle.anomaly.proofs.Moves.{later-is, earlier-is, day-before}

@@ -15,7 +15,6 @@ use Rattle.walking.proofs.Theorem.{demand-3}
 use Rattle.walking.proofs.Sums.{sum-is}
 use Rattle.units.specs.Xinghe.{roundMonths}
 use Rattle.calendar.specs.Carries.{months}
-use Rattle.calendar.specs.declared.MonthRow.{MonthRow}
 use Rattle.calendar.proofs.Lawful.{lawful}
 use Rattle.walk.proofs.walk.Statement.{statement}
 use Rattle.walk.proofs.walk.Tie as tie

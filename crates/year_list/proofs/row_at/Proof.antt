@@ -1,5 +1,5 @@
 use native.Mathlib.Omega.{arith}
-use mathlib.Core.Path.{_≡_, ap, _∙_}
+use mathlib.Core.Path.{ap, _∙_}
 use Rattle.calendar.specs.Answers.{rowValues}
 use Rattle.year_list.proofs.Fronts.{has-head}
 use borrow.Author.Needs.{needs}

@@ -1,5 +1,5 @@
-use mathlib.Core.Path.{_≡_, sym, ap, _∙_}
-use mathlib.Core.List.{List, append-nil}
+use mathlib.Core.Path.{_≡_, ap, _∙_}
+use mathlib.Core.List.{append-nil}
 use lib.ListN.{replicate}
 use Rattle.calendar.specs.Answers.{zeroRow}
 use Rattle.calendar.specs.declared.MonthRow.{MonthRow}

@@ -23,17 +23,17 @@ next-byte-requires c κs = search needs
 enum-known-byte : tie.Need-enum-known-byte Inv-loop μ-loop
 enum-known-byte c = search needs
 
+step-requires : tie.Need-step-requires Inv-loop μ-loop
+step-requires c κs = search needs
+
+enum-known-year : tie.Need-enum-known-year Inv-loop μ-loop
+enum-known-year c = search needs
+
 returns : tie.Need-returns Inv-loop μ-loop
 returns c = search needs
 
-feed-requires : tie.Need-feed-requires Inv-loop μ-loop
-feed-requires c κs = search needs
-
-settled-requires : tie.Need-settled-requires Inv-loop μ-loop
-settled-requires c κs = search needs
-
-returns-2 : tie.Need-returns-2 Inv-loop μ-loop
-returns-2 c = search needs
+enum-known-next : tie.Need-enum-known-next Inv-loop μ-loop
+enum-known-next c = search needs
 
 loop-less : tie.Need-loop-less Inv-loop μ-loop
 loop-less c = search needs
@@ -44,8 +44,8 @@ loop-again c = search needs
 enum-told : tie.Need-enum-told Inv-loop μ-loop
 enum-told c = search needs
 
-returns-3 : tie.Need-returns-3 Inv-loop μ-loop
-returns-3 c = search needs
+returns-2 : tie.Need-returns-2 Inv-loop μ-loop
+returns-2 c = search needs
 
 enum-told-2 : tie.Need-enum-told-2 Inv-loop μ-loop
 enum-told-2 c = search needs
@@ -59,11 +59,11 @@ loop-again-2 c = search needs
 enum-told-3 : tie.Need-enum-told-3 Inv-loop μ-loop
 enum-told-3 c = search needs
 
+returns-3 : tie.Need-returns-3 Inv-loop μ-loop
+returns-3 c = search needs
+
 returns-4 : tie.Need-returns-4 Inv-loop μ-loop
 returns-4 c = search needs
-
-returns-5 : tie.Need-returns-5 Inv-loop μ-loop
-returns-5 c = search needs
 
 pub read-year-spec : {M : Type 1} → statement M
 read-year-spec =
@@ -76,17 +76,17 @@ read-year-spec =
     sub-turns
     next-byte-requires
     enum-known-byte
+    step-requires
+    enum-known-year
     returns
-    feed-requires
-    settled-requires
-    returns-2
+    enum-known-next
     loop-less
     loop-again
     enum-told
-    returns-3
+    returns-2
     enum-told-2
     loop-less-2
     loop-again-2
     enum-told-3
-    returns-4
-    returns-5)
+    returns-3
+    returns-4)

@@ -1,5 +1,5 @@
 use native.Mathlib.Omega.{arith}
-use Prim.Native.Nat.{_-_, _*_, _≤_}
+use Prim.Native.Nat.{_-_, _≤_}
 use mathlib.Core.Path.{_≡_, ap}
 use Rattle.anomaly.specs.Rates.{sumOf}
 use Rattle.anomaly.specs.Amounts.{sizedOf, amountOf}

@@ -1,11 +1,9 @@
 use native.Mathlib.Omega.{arith}
-use Prim.Native.Nat.{_-_, _*_, _≤_}
-use mathlib.Core.Path.{_≡_, ap}
+use Prim.Native.Nat.{_-_}
+use mathlib.Core.Path.{_≡_}
 use lib.IntN.{pos}
 use lib.ListN.{getD}
-use Rattle.units.specs.Xinghe.{N}
 use Rattle.anomaly.specs.Amounts.{sizedOf, correctionOn}
-use Rattle.anomaly.specs.declared.amounts.Amount.{Amount}
 use Rattle.anomaly.proofs.Sums.{rate-back, amount-small, product-small}
 use borrow.Author.Needs.{needs}
 use Rattle.anomaly.proofs.amounts.correction_on.Statement.{statement}

@@ -1,6 +1,6 @@
 use Prim.Native.Nat.{_-_}
 use native.Mathlib.Omega.{arith}
-use mathlib.Core.Path.{_≡_, ap, _∙_}
+use mathlib.Core.Path.{ap, _∙_}
 use Rattle.calendar.specs.declared.RowAnswer.{RowAnswer}
 use Rattle.calendar.proofs.Round.{in-round, head-found, head-leap, head-stands, head-row}
 use Rattle.calendar.proofs.rows.row_under.Statement.{statement}

@@ -1,5 +1,4 @@
 use native.Mathlib.Omega.{arith}
-use Prim.Native.Nat.{_≤_}
 use mathlib.Core.Path.{sym}
 use Rattle.lunisolar.proofs.Laws.{product, before-is}
 use borrow.Author.Needs.{needs}

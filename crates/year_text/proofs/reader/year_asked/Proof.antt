@@ -1,7 +1,8 @@
 use Prim.Native.Nat.{_-_}
+use mathlib.Core.Path.{_≡_, sym, _∙_}
 use borrow.Author.Needs.{needs}
 use lib.ListN.{length}
-use Rattle.year_text.proofs.Readings.{Sofar, sofar-start, sofar-more, sofar-newline, sofar-end}
+use Rattle.year_text.proofs.Readings.{Sofar, sofar-start, sofar-year, sofar-more, sofar-end}
 use Rattle.year_text.proofs.reader.year_asked.Statement.{statement}
 use Rattle.year_text.proofs.reader.year_asked.Tie as tie
 
@@ -20,24 +21,34 @@ loop-holds c = sofar-start (c .before .before .args .input .now) (c .new .result
 shared-slice-read-byte : tie.Need-shared-slice-read-byte Inv-loop μ-loop
 shared-slice-read-byte c = search needs
 
-returns : tie.Need-returns Inv-loop μ-loop
-returns c =
-    let l = c .before .before .before in
-    sofar-newline (l .before .before .before .args .input .now) (l .loop .reader) (l .loop .i) (l .loop .inv) (c .before .before .loop-test .taken) (c .if1 .taken)
-
-feed-requires : tie.Need-feed-requires Inv-loop μ-loop
-feed-requires c κs = search needs
-
 add-i : tie.Need-add-i Inv-loop μ-loop
 add-i c = search needs
+
+step-requires : tie.Need-step-requires Inv-loop μ-loop
+step-requires c κs = search needs
+
+enum-known-year : tie.Need-enum-known-year Inv-loop μ-loop
+enum-known-year c = search needs
+
+returns : tie.Need-returns Inv-loop μ-loop
+returns c =
+    let a = c .before .before .before in
+    let l = a .before .before .before in
+    sofar-year (l .before .before .before .args .input .now) (l .loop .reader) (l .loop .i) (l .loop .inv) (c .before .year .given .0 .0)
+    (a .before .before .loop-test .taken) (sym (c .before .year .given .1) ∙ a .step .ensures)
+
+enum-known-next : tie.Need-enum-known-next Inv-loop μ-loop
+enum-known-next c = search needs
 
 loop-less : tie.Need-loop-less Inv-loop μ-loop
 loop-less c = search needs
 
 loop-again : tie.Need-loop-again Inv-loop μ-loop
 loop-again c =
-    let l = c .before .before .before .before in
-    sofar-more (l .before .before .before .args .input .now) (l .loop .reader) (l .loop .i) (l .loop .inv) (c .feed .result) (c .before .before .before .loop-test .taken) (c .before .if1 .left) (c .feed .ensures)
+    let a = c .before .before .before in
+    let l = a .before .before .before in
+    sofar-more (l .before .before .before .args .input .now) (l .loop .reader) (l .loop .i) (l .loop .inv) (c .before .next .given .0 .0)
+    (a .before .before .loop-test .taken) (sym (c .before .next .given .1) ∙ a .step .ensures)
 
 returns-2 : tie.Need-returns-2 Inv-loop μ-loop
 returns-2 c =
@@ -53,9 +64,11 @@ year-asked-spec =
     new-requires
     loop-holds
     shared-slice-read-byte
-    returns
-    feed-requires
     add-i
+    step-requires
+    enum-known-year
+    returns
+    enum-known-next
     loop-less
     loop-again
     returns-2)

@@ -1,5 +1,4 @@
-use Rattle.year_text.specs.Lines.{lineOf, yearOfLine}
-use Rattle.year_text.proofs.Fits.{capped-text}
+use Rattle.year_text.proofs.Fits.{asked-text}
 use borrow.Author.Needs.{needs}
 use Rattle.year_text.proofs.writer.answer.Statement.{statement}
 use Rattle.year_text.proofs.writer.answer.Tie as tie
@@ -11,7 +10,7 @@ render-requires : tie.Need-render-requires
 render-requires c κs = search needs
 
 returns : tie.Need-returns
-returns c = rw (← capped-text (yearOfLine (lineOf (c .before .before .before .before .args .input .now))), ← c .before .before .year-asked .ensures) (c .render .ensures)
+returns c = rw (← asked-text (c .before .before .before .before .args .input .now), ← c .before .before .year-asked .ensures) (c .render .ensures)
 
 pub answer-spec : {M : Type 1} → statement M
 answer-spec = tie.close (tie.spec year-asked-requires render-requires returns)

@@ -2,7 +2,7 @@ use Prim.Native.Nat.{_-_, _≤_}
 use mathlib.Core.Path.{_≡_}
 use native.Mathlib.Omega.{arith}
 use borrow.Author.Needs.{needs}
-use lib.ListN.{length, take, length-take}
+use lib.ListN.{take, length-take}
 use Rattle.calendar.specs.Answers.{zeroRow}
 use Rattle.year_text.specs.Text.{rowLines}
 use Rattle.year_text.specs.Written.{Wrote}

@@ -1,5 +1,4 @@
 use native.Mathlib.Omega.{arith}
-use mathlib.Core.Path.{_≡_, _∙_}
 use borrow.Author.Tests.{not-true, not-false}
 use Rattle.year_text.specs.Lines.{fed}
 use Rattle.year_text.proofs.Readings.{digit, too-low, too-high}
