@@ -5,17 +5,24 @@ use calendar::YearHead;
 ghost use mathlib.Core.Path.{_≡_};
 ghost use mathlib.Core.List.{[], _∷_};
 ghost use Prim.Native.Nat.{_+_, _*_, _≤_, _<_};
-ghost use lib.ListN.{length, take};
+ghost use lib.ListN.{length, take, set};
 ghost use Rattle.year_text.specs.Decimal.{decimal};
 ghost use Rattle.year_text.specs.Lines.{lineOf, yearOfLine};
 ghost use Rattle.year_text.specs.Written.{Wrote, afterText};
 ghost use Rattle.year_text.specs.Text.{field, named, mark, headLine, placeText, moonText, monthLine, rowLines, textOf};
 
+fn store(out: &mut [u8], at: usize, byte: u8)
+    requires { ⌜ at < length (now out) ⌝ }
+    ensures { λ _. ⌜ now (out .exit) ≡ set (now (out .entry)) at byte ⌝ }
+{
+    out[at] = byte;
+}
+
 fn put(out: &mut [u8], at: usize, byte: u8) -> usize
     requires { ⌜ at < length (now out) ⌝ }
     ensures { λ r. ⌜ Wrote (now (out .entry)) (now (out .exit)) at r (byte ∷ []) ⌝ }
 {
-    out[at] = byte;
+    store(out, at, byte);
     at + 1
 }
 

@@ -34,14 +34,15 @@ is-genuine-requires c κs = search needs
 walk-months-requires : tie.Need-walk-months-requires
 walk-months-requires c κs = (own-month months (c .before .before .args .start) (mine c), omega arith)
 
+-- so is where it starts
+began : (a : tie.After-walk-months) → a .before .before .before .args .start .lunation < roundMonths
+began a = own-month months (a .before .before .before .args .start) (mine (a .before))
+
 row-of-requires : tie.Need-row-of-requires
-row-of-requires c κs = inside c
+row-of-requires c κs = omega (arith, inside c, began c)
 
 difference-requires : tie.Need-difference-requires
-difference-requires c κs =
-    let a = c .before in
-    let b : a .before .before .before .args .start .lunation < roundMonths = own-month months (a .before .before .before .args .start) (mine (a .before)) in
-    (omega (arith, inside a), omega (arith, b))
+difference-requires c κs = let a = c .before in (omega (arith, inside a, began a), omega (arith, inside a, began a))
 
 returns : tie.Need-returns
 returns c =

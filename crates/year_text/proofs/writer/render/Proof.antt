@@ -39,7 +39,7 @@ put-rows-requires c κs =
     let y = h .before .before .before .before .args .year in
     let w = c .before .put-head .ensures in
     let m = head-months y (h .head .given .0 .0) (is-head h) in
-    (m, omega (arith, w .long, w .next, head-length y (h .head .given .0 .0), m))
+    (omega (arith, m), omega (arith, w .long, w .next, head-length y (h .head .given .0 .0), m))
 
 enum-known-head-2 : tie.Need-enum-known-head-2
 enum-known-head-2 c = search needs
