@@ -19,6 +19,7 @@ rowsFields (row ∷ rows) = rowFields row ++ rowsFields rows
 abbrev pub answerIn : HeadAnswer → ℕ → FillAnswer
 answerIn head have = answerFor head (have / 8)
 
+-- the answer for year n
 abbrev pub fillAnswerIn : ℕ → ℕ → FillAnswer
 fillAnswerIn n have = answerIn (yearHead n) have
 

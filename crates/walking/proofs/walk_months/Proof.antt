@@ -72,7 +72,7 @@ returns : tie.Need-returns Inv-loop μ-loop
 returns c =
     let l = c .before in
     let e = at-end (l .before .args .size) (l .before .args .from) (l .before .args .counts .now) (l .loop .month) (l .loop .answered) (l .loop .i) (l .loop .inv) (c .loop-test .left) in
-    rw (e .0, e .1)
+    λ j. record { month = e .0 j; answered = e .1 j }
 
 pub walk-months-spec : {M : Type 1} → statement M
 walk-months-spec =
