@@ -10,10 +10,10 @@ use Rattle.reckoning.specs.Means.{newMoon}
 use Rattle.reckoning.specs.Dates.{monthOf}
 use Rattle.reckoning.proofs.Searches.{through}
 use Rattle.refusal.specs.declared.Refusal.{Refusal}
-use Rattle.lunisolar.specs.Calendars.{yearAt, lunationFor, lunationAt}
-use Rattle.lunisolar.specs.declared.YearAnswer.{YearAnswer}
+use Rattle.lunisolar.specs.Calendars.{lunationFor, lunationAt}
 use Rattle.lunisolar.specs.declared.LunationAnswer.{LunationAnswer}
-use Rattle.units.specs.Xinghe.{xinghe, means, rule, roundYears, roundDays}
+use Rattle.units.specs.Xinghe.{xinghe, means, rule, roundDays}
+use Rattle.units.proofs.Years.{isYear, of-year}
 use Rattle.calendar.specs.Heads.{headFor, yearHead}
 use Rattle.calendar.specs.Rows.{rowOf, rowFor, monthRow}
 use Rattle.calendar.specs.Dates.{dayOf, dayIn, dayFor, dayOfDate, dateIn, dateOfDay}
@@ -23,10 +23,7 @@ use Rattle.calendar.specs.declared.RowAnswer.{RowAnswer}
 use Rattle.calendar.specs.declared.DayAnswer.{DayAnswer}
 use Rattle.calendar.specs.declared.DateAnswer.{DateAnswer}
 
--- the year is one of the round's, and the place one of the year's
-abbrev pub isYear : ℕ → Bool
-isYear n = between 1 n (suc roundYears)
-
+-- the place is one of the year's
 abbrev pub isPlace : ℕ → ℕ → Bool
 isPlace n p = ltb p (monthCount rule (n - 1))
 
@@ -38,15 +35,15 @@ isDay n p i = between 1 i (suc (rowOf (rule .before (n - 1) + p) .length))
 module _ {B : Type 0} (f : LunationAnswer → B) where
   pub of-place : (n p : ℕ) → f (lunationAt xinghe n p) ≡
       pick (isYear n) (pick (isPlace n p) (f (LunationAnswer.Lunation (rule .before (n - 1) + p))) (f (LunationAnswer.Refused Refusal.Place))) (f (LunationAnswer.Refused Refusal.Year))
-  unfolding yearAt lunationFor
+  unfolding lunationFor
   of-place n p =
-      through (λ a. f (lunationFor xinghe a p)) (isYear n) (YearAnswer.Past (n - 1)) (YearAnswer.Refused Refusal.Year)
+      of-year (λ a. f (lunationFor xinghe a p)) n
       ∙ ap (λ (x : B). pick (isYear n) x (f (LunationAnswer.Refused Refusal.Year)))
       (through f (isPlace n p) (LunationAnswer.Lunation (rule .before (n - 1) + p)) (LunationAnswer.Refused Refusal.Place))
 
 pub head-numbers : (n : ℕ) → headNumber (yearHead n) ≡ pick (isYear n) 0 1
-unfolding yearAt headFor
-head-numbers n = through (λ a. headNumber (headFor a)) (isYear n) (YearAnswer.Past (n - 1)) (YearAnswer.Refused Refusal.Year)
+unfolding headFor
+head-numbers n = of-year (λ a. headNumber (headFor a)) n
 
 pub row-numbers : (n p : ℕ) → rowNumber (monthRow n p) ≡ pick (isYear n) (pick (isPlace n p) 0 2) 1
 unfolding rowFor

@@ -7,10 +7,9 @@ use lib.Dec.{ltb}
 use Rattle.reckoning.specs.Search.{pick}
 use Rattle.reckoning.proofs.Searches.{through}
 use Rattle.refusal.specs.declared.Refusal.{Refusal}
-use Rattle.lunisolar.specs.Calendars.{yearAt}
-use Rattle.lunisolar.specs.declared.YearAnswer.{YearAnswer}
 use Rattle.sun.specs.Points.{isCut, pointOf}
-use Rattle.calendar.proofs.Refusals.{isYear, isPlace, of-place}
+use Rattle.units.proofs.Years.{isYear, of-year}
+use Rattle.calendar.proofs.Refusals.{isPlace, of-place}
 use Rattle.ephemeris.specs.Jobs.{phasesFor, phasesAt, nodesFor, nodesAt, correctionsFor, correctionsAt, pointIn, pointFor, cutPoint}
 use Rattle.ephemeris.specs.Answers.{phasesNumber, phasesValues, zeroPhases, nodesNumber, nodesValues, zeroNodes, correctionsNumber, correctionsValues, zeroCorrections, pointNumber, pointValues, zeroPoint}
 use Rattle.ephemeris.specs.declared.PhasesAnswer.{PhasesAnswer}
@@ -31,9 +30,9 @@ unfolding correctionsFor
 corrections-numbers n p = of-place (λ a. correctionsNumber (correctionsFor a)) n p
 
 pub point-numbers : (n c i : ℕ) → pointNumber (cutPoint n c i) ≡ pick (isYear n) (pick (isCut c && ltb i c) 0 8) 1
-unfolding yearAt pointFor pointIn
+unfolding pointFor pointIn
 point-numbers n c i =
-    through (λ a. pointNumber (pointFor a c i)) (isYear n) (YearAnswer.Past (n - 1)) (YearAnswer.Refused Refusal.Year)
+    of-year (λ a. pointNumber (pointFor a c i)) n
     ∙ ap (λ (x : ℕ). pick (isYear n) x 1)
     (through pointNumber (isCut c && ltb i c) (PointAnswer.Answered (pointOf (n - 1) c i)) (PointAnswer.Refused Refusal.Cut))
 

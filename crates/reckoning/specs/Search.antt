@@ -1,4 +1,4 @@
--- Choices and bounded searches, as the other definitions use them. Each computes.
+-- Choices, bounded searches and repetition, as the other definitions use them. Each computes.
 -- Assumes nothing.
 use mathlib.Core.Bool.{Bool, true, false, _&&_}
 use Prim.Native.Nat.{ℕ, zero, suc}
@@ -22,3 +22,8 @@ any f (suc n) = pick (f n) true (any f n)
 unfoldable pub firstFrom : (ℕ → Bool) → ℕ → ℕ → ℕ
 firstFrom f p zero = 0
 firstFrom f p (suc n) = pick (f p) p (firstFrom f (suc p) n)
+
+-- f applied n times
+unfoldable pub times : {A : Type 0} → ℕ → (A → A) → A → A
+times zero f a = a
+times (suc n) f a = f (times n f a)

@@ -1,4 +1,4 @@
-// Why a job refuses, and the number that it returns then (01, "Numbers returned").
+// Why a job refuses, and the number that it returns then (01, "Numbers returned"; 02).
 ghost use mathlib.Core.Path.{_≡_};
 ghost use Rattle.refusal.specs.Numbers.{numberOf};
 
@@ -19,6 +19,8 @@ pub enum Refusal {
     Day,
     // a cut of the year other than 24, 60 and 72, or a point not below the cut
     Cut,
+    // a planet outside 1 to 5
+    Planet,
 }
 
 impl Refusal {
@@ -34,6 +36,7 @@ impl Refusal {
             Refusal::List => 6,
             Refusal::Day => 7,
             Refusal::Cut => 8,
+            Refusal::Planet => 9,
         }
     }
 }

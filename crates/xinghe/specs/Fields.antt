@@ -1,7 +1,7 @@
 -- The values of each answer as the list of numbers that is written to the lent array, in the order of include/xinghe.h.
 -- Assumes nothing.
 use mathlib.Core.Bool.{Bool, cond}
-use mathlib.Core.List.{List, [], _∷_}
+use mathlib.Core.List.{List, [], _∷_, map}
 use Prim.Native.Nat.{ℕ}
 use Rattle.calendar.specs.declared.YearHead.{YearHead}
 use Rattle.calendar.specs.declared.MonthRow.{MonthRow}
@@ -13,6 +13,9 @@ use Rattle.node.specs.declared.Nodes.{Nodes}
 use Rattle.anomaly.specs.Amounts.{sizedOf}
 use Rattle.anomaly.specs.declared.Corrections.{Corrections}
 use Rattle.sun.specs.declared.Point.{Point}
+use Rattle.planets.specs.Answers.{apparitionNumber, stageKindNumber}
+use Rattle.planets.specs.declared.TwoConjunctions.{TwoConjunctions}
+use Rattle.planets.specs.declared.Stage.{Stage}
 
 -- yes is 1 and no is 0
 abbrev pub bitOf : Bool → ℕ
@@ -63,3 +66,21 @@ correctionsFields x =
 -- a point of a cut: day, remainder, rest over the cut
 abbrev pub pointFields : Point → List ℕ
 pointFields p = p .day ∷ p .remainder .parts ∷ p .rest ∷ []
+
+-- two conjunctions: of each the time from the solstice, the time since the origin, and the kind
+abbrev pub conjunctionsFields : TwoConjunctions → List ℕ
+conjunctionsFields c =
+    c .first .time .whole ∷ c .first .time .remainder .parts ∷ c .first .since .whole ∷ c .first .since .remainder .parts
+    ∷ apparitionNumber (c .first .kind)
+    ∷ c .second .time .whole ∷ c .second .time .remainder .parts ∷ c .second .since .whole ∷ c .second .since .remainder .parts
+    ∷ apparitionNumber (c .second .kind) ∷ []
+
+-- a stage: days and remainder, degrees by their sign and size, their remainder, daily motion, what the planet does, morning or evening
+abbrev pub stageFields : Stage → List ℕ
+stageFields s =
+    s .days ∷ s .remainder .parts ∷ bitOf (sizedOf (s .degrees) .minus) ∷ sizedOf (s .degrees) .size ∷ s .excess .parts
+    ∷ s .whole ∷ s .numerator ∷ s .denominator ∷ stageKindNumber (s .kind) ∷ apparitionNumber (s .apparition) ∷ []
+
+-- the stages, one after the other
+abbrev pub stagesFields : List Stage → List (List ℕ)
+stagesFields stages = map stageFields stages

@@ -6,9 +6,11 @@ use calendar::MonthRow;
 use calendar::YearHead;
 use moon::phases::Phases;
 use node::Nodes;
+use planets::Stage;
+use planets::TwoConjunctions;
 use sun::Point;
 ghost use mathlib.Core.Path.{_≡_};
-ghost use Rattle.xinghe.specs.Fields.{bitOf, headFields, rowFields, dayFields, dateFields, phasesFields, nodesFields, correctionsFields, pointFields};
+ghost use Rattle.xinghe.specs.Fields.{bitOf, headFields, rowFields, dayFields, dateFields, phasesFields, nodesFields, correctionsFields, pointFields, conjunctionsFields, stageFields, stagesFields};
 
 // Yes is 1 and no is 0.
 pub fn bit(yes: bool) -> u64
@@ -164,4 +166,72 @@ pub fn point_fields(point: Point) -> [u64; 3]
 {
     let rest = point.remainder;
     [point.day, rest.parts, point.rest]
+}
+
+pub fn conjunctions_fields(conjunctions: TwoConjunctions) -> [u64; 10]
+    ensures { λ r. ⌜ r ≡ conjunctionsFields conjunctions ⌝ }
+{
+    let first = conjunctions.first;
+    let first_time = first.time;
+    let first_rest = first_time.remainder;
+    let first_since = first.since;
+    let first_over = first_since.remainder;
+    let first_kind = first.kind;
+    let second = conjunctions.second;
+    let second_time = second.time;
+    let second_rest = second_time.remainder;
+    let second_since = second.since;
+    let second_over = second_since.remainder;
+    let second_kind = second.kind;
+    let first_kind = first_kind.number();
+    let second_kind = second_kind.number();
+    [
+        first_time.whole,
+        first_rest.parts,
+        first_since.whole,
+        first_over.parts,
+        first_kind,
+        second_time.whole,
+        second_rest.parts,
+        second_since.whole,
+        second_over.parts,
+        second_kind,
+    ]
+}
+
+pub fn stage_fields(stage: Stage) -> [u64; 10]
+    ensures { λ r. ⌜ r ≡ stageFields stage ⌝ }
+{
+    let rest = stage.remainder;
+    let over = stage.excess;
+    let kind = stage.kind;
+    let apparition = stage.apparition;
+    let by = anomaly::amounts::sized_of(stage.degrees);
+    let minus = bit(by.minus);
+    let kind = kind.number();
+    let apparition = apparition.number();
+    [
+        stage.days,
+        rest.parts,
+        minus,
+        by.size,
+        over.parts,
+        stage.whole,
+        stage.numerator,
+        stage.denominator,
+        kind,
+        apparition,
+    ]
+}
+
+pub fn stages_fields(stages: [Stage; 14]) -> [[u64; 10]; 14]
+    ensures { λ r. ⌜ r ≡ stagesFields stages ⌝ }
+{
+    let mut fields = [[0; 10]; 14];
+    let mut i = 0;
+    while i < 14 {
+        fields[i] = stage_fields(stages[i]);
+        i += 1;
+    }
+    fields
 }

@@ -1,6 +1,7 @@
 // The Xinghe calendar for C and Rust: the functions of include/xinghe.h. Each takes any numbers, returns 0 or the number under which it
 // refuses, and writes its values as plain numbers to the arrays lent to it: zeros where it refuses.
 ghost use mathlib.Core.Path.{_≡_};
+ghost use mathlib.Core.List.{[], _∷_};
 ghost use lib.ListN.{length};
 ghost use Rattle.calendar.specs.Heads.{yearHead};
 ghost use Rattle.calendar.specs.Rows.{monthRow};
@@ -9,7 +10,9 @@ ghost use Rattle.calendar.specs.Answers.{headNumber, headValues, rowNumber, row
 ghost use Rattle.year_list.specs.Filled.{fillNumber};
 ghost use Rattle.ephemeris.specs.Jobs.{phasesAt, nodesAt, correctionsAt, cutPoint};
 ghost use Rattle.ephemeris.specs.Answers.{phasesNumber, phasesValues, nodesNumber, nodesValues, correctionsNumber, correctionsValues, pointNumber, pointValues};
-ghost use Rattle.xinghe.specs.Fields.{headFields, rowFields, dayFields, dateFields, phasesFields, nodesFields, correctionsFields, pointFields};
+ghost use Rattle.planets.specs.Jobs.{conjunctionsAt, stagesAt};
+ghost use Rattle.planets.specs.Answers.{conjunctionsNumber, conjunctionsValues, stagesNumber, stagesCount};
+ghost use Rattle.xinghe.specs.Fields.{conjunctionsFields, stagesFields, headFields, rowFields, dayFields, dateFields, phasesFields, nodesFields, correctionsFields, pointFields};
 ghost use Rattle.xinghe.specs.Lent.{carryOfFields};
 ghost use Rattle.walk.specs.Walked.{walkNumber, walkValues};
 ghost use Rattle.xinghe.specs.Walks.{walkOfFields, totalsFields};
@@ -90,6 +93,28 @@ pub extern "C" fn xinghe_cut_point(year: u64, cut: u64, index: u64, out: &mut [u
     let answer = ephemeris::cut_point(year, cut, index);
     *out = fields::point_fields(answer.values());
     answer.number()
+}
+
+#[no_mangle]
+pub extern "C" fn xinghe_conjunctions(year: u64, planet: u64, out: &mut [u64; 10]) -> u64
+    ensures { λ r. ⌜ (r ≡ conjunctionsNumber (conjunctionsAt year planet)) × (now (out .exit) ≡ conjunctionsFields (conjunctionsValues (conjunctionsAt year planet))) ⌝ }
+{
+    let answer = planets::conjunctions(year, planet);
+    *out = fields::conjunctions_fields(answer.values());
+    answer.number()
+}
+
+// All stages of a planet, of ten numbers each, and how many there are.
+#[no_mangle]
+pub extern "C" fn xinghe_stages(planet: u64, count: &mut [u64; 1], out: &mut [[u64; 10]; 14]) -> u64
+    ensures { λ r. ⌜ (r ≡ stagesNumber (stagesAt planet .count)) × (now (count .exit) ≡ stagesCount (stagesAt planet .count) ∷ []) × (now (out .exit) ≡ stagesFields (stagesAt planet .stages)) ⌝ }
+{
+    let answer = planets::stages(planet);
+    let stages = answer.stages;
+    let counted = answer.count;
+    *count = [counted.value()];
+    *out = fields::stages_fields(stages);
+    counted.number()
 }
 
 // `row` holds the eight numbers of a month's row.

@@ -13,8 +13,6 @@ use Rattle.reckoning.specs.Search.{pick}
 use Rattle.reckoning.specs.Rule.{monthCount}
 use Rattle.reckoning.proofs.Searches.{through}
 use Rattle.refusal.specs.declared.Refusal.{Refusal}
-use Rattle.lunisolar.specs.Calendars.{yearAt}
-use Rattle.lunisolar.specs.declared.YearAnswer.{YearAnswer}
 use Rattle.lunisolar.proofs.Laws.{year-at, lunation-at}
 use Rattle.units.specs.Xinghe.{xinghe, rule, roundYears}
 use Rattle.calendar.specs.Heads.{headOf, headFor, yearHead}
@@ -24,16 +22,16 @@ use Rattle.calendar.specs.declared.YearHead.{YearHead}
 use Rattle.calendar.specs.declared.HeadAnswer.{HeadAnswer}
 use Rattle.calendar.specs.declared.MonthRow.{MonthRow}
 use Rattle.calendar.proofs.Round.{head-months}
-use Rattle.calendar.proofs.Refusals.{isYear}
+use Rattle.units.proofs.Years.{isYear, of-year}
 use Rattle.year_list.specs.Filled.{answerFor, fillAnswer, rowAt, rowsFrom, toWrite, filled, yearRows, fillNumber}
 use Rattle.year_list.specs.declared.FillAnswer.{FillAnswer}
 use Rattle.year_list.proofs.Fronts.{rows-length}
 
 -- the numbers: 1 where the round has no such year, then 6 where the list is shorter than the year's month count
 pub fill-numbers : (n have : ℕ) → fillNumber (fillAnswer n have) ≡ pick (isYear n) (pick (leb (monthCount rule (n - 1)) have) 0 6) 1
-unfolding yearAt headFor headOf answerFor
+unfolding headFor headOf answerFor
 fill-numbers n have =
-    through (λ a. fillNumber (answerFor (headFor a) have)) (isYear n) (YearAnswer.Past (n - 1)) (YearAnswer.Refused Refusal.Year)
+    of-year (λ a. fillNumber (answerFor (headFor a) have)) n
     ∙ ap (λ (x : ℕ). pick (isYear n) x 1)
     (through fillNumber (leb (monthCount rule (n - 1)) have) (FillAnswer.Filled (monthCount rule (n - 1))) (FillAnswer.Refused Refusal.List))
 
