@@ -3,7 +3,9 @@
 use crate::checkpoints::Checkpoints;
 use crate::instants::{Cut, SunPoint};
 use crate::numbers::SIXTY;
+use crate::planets::Conjunctions;
 use crate::spans::carried;
+use crate::stages::{self, Stage};
 use crate::walker::{Month, Row, Year};
 
 /// Why nothing is answered; the discriminant is the paper's number.
@@ -17,6 +19,7 @@ pub enum Refusal {
     ListTooShort = 6,
     DayNumber = 7,
     Cut = 8,
+    Planet = 9,
 }
 
 pub fn year(number: u64) -> Result<Year, Refusal> {
@@ -82,4 +85,23 @@ pub fn cut_point(number: u64, points: u64, index: u64) -> Result<SunPoint, Refus
     let cut = cut.filter(|cut| index < cut.points).ok_or(Refusal::Cut)?;
     let point = year.points(cut).nth(index as usize);
     Ok(point.expect("a point below the cut"))
+}
+
+/// A planet's conjunctions of a year.
+pub fn conjunctions(number: u64, planet: u64) -> Result<Conjunctions, Refusal> {
+    let year = year(number)?;
+    Ok(year.conjunctions[index(planet)?])
+}
+
+/// A planet's stages, in order.
+pub fn stages(planet: u64) -> Result<Vec<Stage>, Refusal> {
+    index(planet).map(stages::of_planet)
+}
+
+/// Planets are numbered from 1.
+fn index(planet: u64) -> Result<usize, Refusal> {
+    match planet {
+        1..=5 => Ok(planet as usize - 1),
+        _ => Err(Refusal::Planet),
+    }
 }

@@ -7,6 +7,7 @@ use crate::ask::{self, Refusal};
 use crate::checkpoints::Checkpoints;
 use crate::fields;
 use crate::instants::Cut;
+use crate::planet_cases;
 use crate::walker::{Month, Row};
 
 /// Years at the seams of the round, asked after those at even distances.
@@ -64,6 +65,7 @@ fn edge_lines() -> Vec<String> {
         cut(1, 60, 59),
         cut(1_011_600, 24, 23),
     ]);
+    lines.extend(planet_cases::lines());
     lines
 }
 
@@ -283,14 +285,14 @@ fn of_month(question: &str, year: u64, place: u64, answer: impl Fn(&Month) -> St
     line(format!("{question} {year} {place}"), answer)
 }
 
-fn line(question: String, answer: Result<String, Refusal>) -> String {
+pub fn line(question: String, answer: Result<String, Refusal>) -> String {
     match answer {
         Ok(values) => format!("{question} {values}\n"),
         Err(refusal) => format!("{question} refused {}\n", refusal as u8),
     }
 }
 
-fn joined(values: &[impl Display]) -> String {
+pub fn joined(values: &[impl Display]) -> String {
     let words: Vec<String> = values.iter().map(|value| value.to_string()).collect();
     words.join(" ")
 }

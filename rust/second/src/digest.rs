@@ -43,6 +43,7 @@ impl Digest {
         self.feed(other.h2);
     }
 
+    /// Everything about the year but its planets.
     pub fn feed_year(&mut self, year: &Year) {
         for cut in Cut::ASKED {
             for point in year.points(cut) {
@@ -51,6 +52,12 @@ impl Digest {
         }
         for month in &year.months {
             self.feed_month(month);
+        }
+    }
+
+    pub fn feed_conjunctions(&mut self, year: &Year) {
+        for conjunctions in &year.conjunctions {
+            self.feed_all(fields::conjunctions(conjunctions).as_flattened());
         }
     }
 

@@ -1,7 +1,10 @@
-//! A year's and a month's answers as plain numbers, in the order in which they are written.
+//! A year's, a month's and a planet's answers as plain numbers, in the order in
+//! which they are written.
 
 use crate::instants::SunPoint;
 use crate::nodes::Side;
+use crate::planets::{Conjunction, Conjunctions};
+use crate::stages::Stage;
 use crate::walker::{Month, Year};
 
 /// Months before, leap remainder, months, leap place, day and remainder of the
@@ -83,5 +86,37 @@ pub fn full_moon_correction(month: &Month, shift: i64) -> [i64; 7] {
         at.day as i64,
         at.remainder as i64,
         at.day_half as i64,
+    ]
+}
+
+/// Of the year's conjunction and of the one after it: days and remainder from
+/// the solstice, day and remainder from the origin, kind.
+pub fn conjunctions(conjunctions: &Conjunctions) -> [[u64; 5]; 2] {
+    [conjunctions.first, conjunctions.second].map(conjunction)
+}
+
+fn conjunction(at: Conjunction) -> [u64; 5] {
+    [
+        at.from_solstice.whole,
+        at.from_solstice.remainder,
+        at.from_origin.whole,
+        at.from_origin.remainder,
+        at.twilight as u64,
+    ]
+}
+
+/// Days, degrees, each with a remainder, the day's motion, kind, morning or
+/// evening.
+pub fn stage(stage: &Stage) -> [i64; 9] {
+    [
+        stage.days as i64,
+        stage.days_remainder as i64,
+        stage.degrees,
+        stage.degrees_remainder as i64,
+        stage.motion.whole as i64,
+        stage.motion.numerator as i64,
+        stage.motion.denominator as i64,
+        stage.course as i64,
+        stage.twilight as i64,
     ]
 }

@@ -4,9 +4,11 @@
 //! Nothing here divides to find where something stands; that is the way of the
 //! program this one is compared with. Days and degrees are added and taken off
 //! with their remainders ([`spans`]), an eclipse's size is counted along the
-//! degree marks, and a correction is made up of doublings. [`Walker`] yields the
-//! round a year at a time, [`Checkpoints`] finds a single year, month or day
-//! quickly by walking on from a kept state.
+//! degree marks, and a correction is made up of doublings. The planets are
+//! walked from conjunction to conjunction; their stages are read from the
+//! printed text ([`stage_text`]). [`Walker`] yields the round a year at a time,
+//! [`Checkpoints`] finds a single year, month or day quickly by walking on from
+//! a kept state.
 
 pub mod anomaly;
 pub mod ask;
@@ -17,8 +19,13 @@ pub mod fields;
 pub mod instants;
 pub mod nodes;
 pub mod numbers;
+pub mod numerals;
+pub mod planet_cases;
+pub mod planets;
 pub mod printer;
 pub mod spans;
+pub mod stage_text;
+pub mod stages;
 pub mod survey;
 pub mod walker;
 

@@ -66,7 +66,7 @@ pub const fn carried(sum: u64, full: u64) -> (u64, u64) {
 }
 
 /// What is left of a place, with one full count borrowed where it is too short.
-fn borrowed(place: u64, taken: u64, full: u64) -> (u64, u64) {
+pub fn borrowed(place: u64, taken: u64, full: u64) -> (u64, u64) {
     assert!(place < full && taken <= full);
     if place < taken {
         (1, place + full - taken)

@@ -1,4 +1,4 @@
-//! The survey: counts and a digest for each era and for the round.
+//! The survey: counts and digests for each era and for the round.
 
 use std::io::{self, Write};
 
@@ -37,40 +37,60 @@ impl Counts {
         self.full_moons += other.full_moons;
     }
 
-    fn line(&self, title: &str, digest: &Digest) -> String {
+    fn line(&self, title: &str, digests: &Digests) -> String {
         let leaps = self.leaps[1..].iter().map(u64::to_string);
         format!(
-            "{title} months {} long {} leaps {} new {} full {} digest {}\n",
+            "{title} months {} long {} leaps {} new {} full {} digest {} planets {}\n",
             self.months,
             self.long,
             leaps.collect::<Vec<_>>().join(" "),
             self.new_moons,
             self.full_moons,
-            digest.value()
+            digests.months.value(),
+            digests.planets.value()
         )
+    }
+}
+
+/// The planets have a digest of their own, beside that of all the others.
+#[derive(Default)]
+struct Digests {
+    months: Digest,
+    planets: Digest,
+}
+
+impl Digests {
+    fn feed_year(&mut self, year: &Year) {
+        self.months.feed_year(year);
+        self.planets.feed_conjunctions(year);
+    }
+
+    fn add(&mut self, other: &Self) {
+        self.months.feed_digest(&other.months);
+        self.planets.feed_digest(&other.planets);
     }
 }
 
 pub fn write(out: &mut impl Write) -> io::Result<()> {
     let mut walker = Walker::from_origin();
     let mut round = Counts::default();
-    let mut round_digest = Digest::default();
+    let mut round_digests = Digests::default();
     for era in 1..=ERAS {
-        let (counts, digest) = survey_era(&mut walker);
-        out.write_all(counts.line(&format!("era {era}"), &digest).as_bytes())?;
+        let (counts, digests) = survey_era(&mut walker);
+        out.write_all(counts.line(&format!("era {era}"), &digests).as_bytes())?;
         round.add(&counts);
-        round_digest.feed_digest(&digest);
+        round_digests.add(&digests);
     }
     assert!(walker.next().is_none(), "the eras end before the round");
-    out.write_all(round.line("round", &round_digest).as_bytes())
+    out.write_all(round.line("round", &round_digests).as_bytes())
 }
 
-fn survey_era(walker: &mut Walker) -> (Counts, Digest) {
+fn survey_era(walker: &mut Walker) -> (Counts, Digests) {
     let mut counts = Counts::default();
-    let mut digest = Digest::default();
+    let mut digests = Digests::default();
     for year in walker.take(ERA_YEARS as usize) {
         counts.count_year(&year);
-        digest.feed_year(&year);
+        digests.feed_year(&year);
     }
-    (counts, digest)
+    (counts, digests)
 }

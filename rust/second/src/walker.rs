@@ -7,6 +7,7 @@ use crate::numbers::{
     CHAPTER_LEAPS, CHAPTER_YEARS, ERAS, ERA_YEARS, LAST_DAY, LONG_FROM, ROUND_MONTHS, ROUND_YEARS,
     SIXTY,
 };
+use crate::planets::{Conjunctions, Planet, PlanetWalk};
 use crate::spans::carried;
 
 /// The month row of the rules paper.
@@ -46,6 +47,8 @@ pub struct Year {
     pub leap_place: u64,
     pub solstice: SunPoint,
     pub months: Vec<Month>,
+    /// By planet, in the paper's order.
+    pub conjunctions: [Conjunctions; 5],
 }
 
 impl Year {
@@ -178,6 +181,7 @@ pub struct Walker {
     /// The next middle term; at the start of a year its solstice.
     term: SunPoint,
     moon: MoonWalk,
+    planets: [PlanetWalk; 5],
 }
 
 impl Walker {
@@ -190,6 +194,7 @@ impl Walker {
             leap_remainder: 0,
             term: SunPoint::ORIGIN,
             moon: MoonWalk::ORIGIN,
+            planets: Planet::ALL.map(PlanetWalk::at_origin),
         }
     }
 
@@ -212,6 +217,13 @@ impl Walker {
         if self.era_years_past == 0 {
             self.moon.node = self.moon.node.at_era_head(self.eras_past);
         }
+    }
+
+    /// Walks on to the conjunctions of the year at hand.
+    fn walk_planets(&mut self) -> [Conjunctions; 5] {
+        let solstice = self.term;
+        let planets = self.planets.each_mut();
+        planets.map(|planet| planet.walk_to(solstice))
     }
 
     /// Walks on to the month that holds the next year's solstice.
@@ -264,7 +276,8 @@ impl Walker {
         assert_eq!(self.term.rest, 0, "a solstice is whole over D");
     }
 
-    /// After the last year everything but node and anomaly is as at the origin.
+    /// After the last year everything but node, anomaly and planets is as at the
+    /// origin.
     fn assert_round_closes(&self) {
         let moon = &self.moon;
         assert_eq!(moon.lunation, ROUND_MONTHS);
@@ -289,6 +302,7 @@ impl Iterator for Walker {
         }
         self.enter_era();
         let start = self.clone();
+        let conjunctions = self.walk_planets();
         let months = self.walk_months();
         self.step_year();
         Some(Year {
@@ -298,6 +312,7 @@ impl Iterator for Walker {
             leap_place: leap_place(&months),
             solstice: start.term,
             months,
+            conjunctions,
         })
     }
 }
