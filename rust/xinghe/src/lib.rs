@@ -3,8 +3,9 @@
 //! Every function takes any numbers whatever. `Err` holds the number under
 //! which the library refuses: 1 the year, 2 the place, 3 the day of the month,
 //! 4 a row that is not genuine, 5 a carry out of the round, 6 a list too
-//! short, 7 the day number, 8 the cut or its point. include/xinghe.h says what
-//! each value means; the arrays here are in its order.
+//! short, 7 the day number, 8 the cut or its point, 9 the planet.
+//! include/xinghe.h says what each value means; the arrays here are in its
+//! order.
 
 mod raw;
 
@@ -23,6 +24,15 @@ pub struct Walk {
     pub sum: i64,
     /// How many counts were answered.
     pub answered: u64,
+}
+
+/// A planet's stages.
+#[derive(Clone, Copy, Debug, PartialEq, Eq)]
+pub struct Stages {
+    /// How many there are.
+    pub count: u64,
+    /// Ten numbers of each, in order; zeros past the count.
+    pub stages: [[u64; 10]; 14],
 }
 
 fn answer<const LENGTH: usize>(
@@ -80,6 +90,20 @@ pub fn corrections(year: u64, place: u64) -> Answer<[u64; 14]> {
 /// Day, remainder and rest of a point of the cut of a year in 24, 60 or 72.
 pub fn cut_point(year: u64, cut: u64, index: u64) -> Answer<[u64; 3]> {
     answer(|out| raw::xinghe_cut_point(year, cut, index, out))
+}
+
+/// A planet's conjunction after the solstice of a year and the one after it,
+/// five numbers of each. The planets are 1 Jupiter, 2 Mars, 3 Saturn, 4 Venus
+/// and 5 Mercury.
+pub fn conjunctions(year: u64, planet: u64) -> Answer<[u64; 10]> {
+    answer(|out| raw::xinghe_conjunctions(year, planet, out))
+}
+
+/// The stages of a planet from conjunction to conjunction.
+pub fn stages(planet: u64) -> Answer<Stages> {
+    let mut stages = [[0; 10]; 14];
+    let [count] = answer(|count| raw::xinghe_stages(planet, count, &mut stages))?;
+    Ok(Stages { count, stages })
 }
 
 /// Writes the rows of a year, of eight numbers each, to the front of the list.

@@ -15,6 +15,8 @@ unsafe extern "C" {
     pub safe fn xinghe_nodes(year: u64, place: u64, out: &mut [u64; 15]) -> u64;
     pub safe fn xinghe_corrections(year: u64, place: u64, out: &mut [u64; 14]) -> u64;
     pub safe fn xinghe_cut_point(year: u64, cut: u64, index: u64, out: &mut [u64; 3]) -> u64;
+    pub safe fn xinghe_conjunctions(year: u64, planet: u64, out: &mut [u64; 10]) -> u64;
+    pub safe fn xinghe_stages(planet: u64, count: &mut [u64; 1], out: &mut [[u64; 10]; 14]) -> u64;
 
     /// `counts` points to `length` numbers, and is neither null nor unaligned.
     pub fn xinghe_walk(

@@ -1,7 +1,10 @@
 //! The second program's answers in the order of include/xinghe.h.
 
 use second::ask::Refusal;
+use second::planets::Conjunctions;
+use second::stages::Stage;
 use second::{fields, Month, Row};
+use xinghe::Stages;
 
 /// The round's last year, month and day.
 pub const LAST_YEAR: u64 = second::numbers::ROUND_YEARS;
@@ -44,6 +47,28 @@ pub fn corrections(month: &Month) -> [u64; 14] {
     let below = i64::from(by < 0);
     let full = [day, rest, half, below, by.abs(), to_day, to_rest, to_half];
     joined(&new.map(|n| n as u64), &full.map(|n| n as u64))
+}
+
+pub fn conjunctions(conjunctions: &Conjunctions) -> [u64; 10] {
+    joined(fields::conjunctions(conjunctions).as_flattened(), &[])
+}
+
+/// The second program gives degrees as one signed number, and no places past
+/// the last stage.
+pub fn stages(stages: &[Stage]) -> Stages {
+    let mut all = [[0; 10]; 14];
+    for (place, stage) in all.iter_mut().zip(stages) {
+        let numbers = fields::stage(stage);
+        let degrees = numbers[2];
+        let front = [numbers[0], numbers[1], i64::from(degrees < 0)];
+        let front = front.map(|n| n as u64);
+        let behind = numbers.map(i64::unsigned_abs);
+        *place = joined(&front, &behind[2..]);
+    }
+    Stages {
+        count: stages.len() as u64,
+        stages: all,
+    }
 }
 
 fn joined<const LENGTH: usize>(first: &[u64], second: &[u64]) -> [u64; LENGTH] {

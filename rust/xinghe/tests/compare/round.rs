@@ -32,7 +32,7 @@ fn every_month_of_the_round() {
     }
     let last = before.expect("a round with months");
     tally.same(xinghe::carry(&last, 1), Err(5));
-    tally.end(80_000_000);
+    tally.end(90_000_000);
 }
 
 fn compare_year(tally: &mut Tally, year: &Year) {
@@ -45,6 +45,10 @@ fn compare_year(tally: &mut Tally, year: &Year) {
     }
     let past = year.months.len() as u64;
     tally.same(xinghe::month_row(number, past), Err(2));
+    for (planet, walked) in (1..).zip(&year.conjunctions) {
+        let answered = xinghe::conjunctions(number, planet);
+        tally.same(answered, Ok(expected::conjunctions(walked)));
+    }
 }
 
 fn compare_cuts(tally: &mut Tally, year: &Year) {

@@ -1,5 +1,7 @@
 //! What is written to arrays that hold other numbers before: the values where
-//! a call is answered, zeros where it is refused.
+//! a call is answered, zeros where it is refused, and nothing beside them.
+
+use std::hint::black_box;
 
 use xinghe::Answer;
 
@@ -10,6 +12,33 @@ use crate::tally::Tally;
 
 const SENTINEL: u64 = 0x1234_5678_9abc_def1;
 
+/// An array that is lent, between numbers that are not.
+#[repr(C)]
+struct Lent<T> {
+    before: [u64; 8],
+    out: T,
+    behind: [u64; 8],
+}
+
+impl<T> Lent<T> {
+    fn new(out: T) -> Self {
+        Self {
+            before: [SENTINEL; 8],
+            out,
+            behind: [SENTINEL; 8],
+        }
+    }
+
+    /// What the array holds now; the numbers about it must be as they were.
+    #[track_caller]
+    fn given_back(self) -> T {
+        // Read anew: the compiler may take them for numbers nobody could reach.
+        let lent = black_box(self);
+        assert_eq!((lent.before, lent.behind), ([SENTINEL; 8], [SENTINEL; 8]));
+        lent.out
+    }
+}
+
 /// The safe function starts from zeros, this call from other numbers; both
 /// must come to the same, and to zeros where the answer is a refusal.
 #[track_caller]
@@ -18,13 +47,13 @@ fn compare<const LENGTH: usize>(
     safe: Answer<[u64; LENGTH]>,
     call: impl FnOnce(&mut [u64; LENGTH]) -> u64,
 ) {
-    let mut out = [SENTINEL; LENGTH];
-    let number = call(&mut out);
+    let mut lent = Lent::new([SENTINEL; LENGTH]);
+    let number = call(&mut lent.out);
     let expected = match safe {
         Ok(values) => (0, values),
         Err(number) => (number, [0; LENGTH]),
     };
-    tally.same((number, out), expected);
+    tally.same((number, lent.given_back()), expected);
 }
 
 fn months(tally: &mut Tally, year: u64, place: u64) {
@@ -123,4 +152,37 @@ fn refused_lists() {
         assert_eq!(answered, number);
         assert_eq!(list, [SENTINEL; 104]);
     }
+}
+
+/// Planets about the five, and years one in four of which are none.
+#[test]
+fn conjunctions() {
+    let mut random = Random::new(14);
+    let mut tally = Tally::new("sentinels of conjunctions");
+    for _ in 0..50_000 {
+        let year = random.below(LAST_YEAR + LAST_YEAR / 3);
+        for planet in [0, 1, 2, 3, 4, 5, 6, u64::MAX] {
+            compare(&mut tally, xinghe::conjunctions(year, planet), |out| {
+                raw::xinghe_conjunctions(year, planet, out)
+            });
+        }
+    }
+    tally.end(400_000);
+}
+
+#[test]
+fn stages() {
+    let mut tally = Tally::new("sentinels of stages");
+    for planet in (0..10).chain([1 << 32, u64::MAX]) {
+        let mut count = Lent::new([SENTINEL]);
+        let mut out = Lent::new([[SENTINEL; 10]; 14]);
+        let number = raw::xinghe_stages(planet, &mut count.out, &mut out.out);
+        let expected = match xinghe::stages(planet) {
+            Ok(stages) => (0, [stages.count], stages.stages),
+            Err(number) => (number, [0], [[0; 10]; 14]),
+        };
+        let written = (number, count.given_back(), out.given_back());
+        tally.same(written, expected);
+    }
+    tally.end(12);
 }

@@ -8,12 +8,12 @@ use crate::expected::{self, LAST_DAY, LAST_YEAR};
 use crate::random::Random;
 use crate::tally::Tally;
 
-const EDGES: [u64; 6] = [1 << 32, 1 << 63, i64::MAX as u64, u64::MAX - 1, u64::MAX, 0];
+pub const EDGES: [u64; 6] = [1 << 32, 1 << 63, i64::MAX as u64, u64::MAX - 1, u64::MAX, 0];
 const CUTS: [u64; 12] = [0, 1, 12, 23, 24, 25, 60, 61, 72, 73, 24 << 32, u64::MAX];
-const EDGE_YEARS: [u64; 5] = [1, 2, 3, LAST_YEAR - 1, LAST_YEAR];
+pub const EDGE_YEARS: [u64; 5] = [1, 2, 3, LAST_YEAR - 1, LAST_YEAR];
 
 /// Years of the round and, one time in eight, others.
-fn some_year(random: &mut Random) -> u64 {
+pub fn some_year(random: &mut Random) -> u64 {
     match random.below(8) {
         0 => random.pick(&[0, LAST_YEAR + 1, LAST_YEAR + 2, 1 << 32, u64::MAX]),
         1 => random.pick(&EDGE_YEARS),
