@@ -15,6 +15,8 @@ pub struct Inputs {
     pub walks: Vec<([u64; 8], Vec<i64>)>,
     pub years: Vec<u64>,
     pub points: Vec<(u64, u64, u64)>,
+    pub conjunctions: Vec<(u64, u64)>,
+    pub planets: Vec<u64>,
 }
 
 struct Random {
@@ -59,6 +61,10 @@ impl Random {
         (self.year(), cut, self.below(cut))
     }
 
+    fn planet(&mut self) -> u64 {
+        1 + self.below(5)
+    }
+
     /// To a month of the round.
     fn carry(&mut self) -> ([u64; 8], i64) {
         let row = self.row();
@@ -89,6 +95,8 @@ impl Inputs {
             walks: some(WALKS, || random.walk()),
             years: some(COUNT, || random.year()),
             points: some(COUNT, || random.point()),
+            conjunctions: some(COUNT, || (random.year(), random.planet())),
+            planets: some(COUNT, || random.planet()),
         }
     }
 }

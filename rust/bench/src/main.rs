@@ -17,6 +17,9 @@ use measure::{measure, Line};
 /// A walk's last row and its totals.
 type End = ([u64; 8], [u64; 3]);
 
+/// A planet's count of stages, and the stages.
+type Stages = ([u64; 1], [[u64; 10]; 14]);
+
 fn rows_and_dates(inputs: &Inputs) -> [Line; 4] {
     [
         measure(
@@ -119,6 +122,26 @@ fn moons(inputs: &Inputs) -> [Line; 4] {
     ]
 }
 
+fn planets(inputs: &Inputs) -> [Line; 2] {
+    let blank: Stages = ([0], [[0; 10]; 14]);
+    [
+        measure(
+            "conjunctions",
+            &inputs.conjunctions,
+            [0; 10],
+            |&(year, planet), out| raw::xinghe_conjunctions(year, planet, out),
+            |&(year, planet), out| fast::conjunctions(year, planet, out),
+        ),
+        measure(
+            "stages",
+            &inputs.planets,
+            blank,
+            |&planet, (count, out)| raw::xinghe_stages(planet, count, out),
+            |&planet, (count, out)| fast::stages(planet, count, out),
+        ),
+    ]
+}
+
 fn main() {
     let inputs = Inputs::new();
     println!("| job | library, ns per call | Rust, ns per call | library / Rust |");
@@ -127,6 +150,7 @@ fn main() {
     walks(&inputs).print();
     years(&inputs).iter().for_each(Line::print);
     moons(&inputs).iter().for_each(Line::print);
+    planets(&inputs).iter().for_each(Line::print);
     let survey = survey::measure();
     survey.print();
     println!();

@@ -99,3 +99,22 @@ fn years_places_days_and_cuts() {
         }
     }
 }
+
+#[test]
+fn planets() {
+    for planet in [0, 1, 2, 3, 4, 5, 6, u64::MAX] {
+        for year in [0, 1, 2, 976_859, 1_011_600, 1_011_601, u64::MAX] {
+            let mut out = [OTHER; 10];
+            let number = fast::conjunctions(year, planet, &mut out);
+            let expected = xinghe::conjunctions(year, planet);
+            assert_eq!((number, out), numbered(expected));
+        }
+        let (mut count, mut out) = ([OTHER], [[OTHER; 10]; 14]);
+        let number = fast::stages(planet, &mut count, &mut out);
+        let expected = match xinghe::stages(planet) {
+            Ok(stages) => (0, [stages.count], stages.stages),
+            Err(number) => (number, [0], [[0; 10]; 14]),
+        };
+        assert_eq!((number, count, out), expected);
+    }
+}

@@ -7,7 +7,9 @@
 
 mod anomaly;
 mod node;
+mod planets;
 mod rows;
+mod stages;
 
 pub use rows::{ROUND_DAYS, ROUND_MONTHS, ROUND_YEARS};
 
@@ -81,6 +83,25 @@ pub extern "C" fn corrections_from_rates(year: u64, place: u64, out: &mut [u64; 
 #[inline(never)]
 pub extern "C" fn cut_point(year: u64, cut: u64, index: u64, out: &mut [u64; 3]) -> u64 {
     written(rows::cut_point(year, cut, index), out)
+}
+
+#[inline(never)]
+pub extern "C" fn conjunctions(year: u64, planet: u64, out: &mut [u64; 10]) -> u64 {
+    written(planets::conjunctions(year, planet), out)
+}
+
+#[inline(never)]
+pub extern "C" fn stages(planet: u64, count: &mut [u64; 1], out: &mut [[u64; 10]; 14]) -> u64 {
+    match stages::of_planet(planet) {
+        Some(list) => {
+            (*count, *out) = ([list.count], list.stages);
+            0
+        }
+        None => {
+            (*count, *out) = ([0], [[0; 10]; 14]);
+            9
+        }
+    }
 }
 
 /// The first row is tested, the month alone is moved, and one row is worked out

@@ -51,6 +51,12 @@ fn start(year: u64) -> Result<Start, u64> {
     })
 }
 
+/// The years before a year.
+#[inline]
+pub fn past(year: u64) -> Result<u64, u64> {
+    Ok(start(year)?.past)
+}
+
 #[inline]
 pub fn head(number: u64) -> Result<[u64; 6], u64> {
     let Start {
@@ -166,7 +172,7 @@ pub fn phases(lunation: u64) -> [u64; 12] {
 
 #[inline]
 pub fn cut_point(number: u64, cut: u64, index: u64) -> Result<[u64; 3], u64> {
-    let past = start(number)?.past;
+    let past = past(number)?;
     if index >= cut {
         return Err(8);
     }
