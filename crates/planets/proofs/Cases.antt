@@ -1,21 +1,17 @@
 -- The definitions by what the code has found, and their bounds.
 -- Assumes nothing.
-use mathlib.Core.Path.{_≡_, refl}
+use mathlib.Core.Path.{_≡_, refl, sym, subst}
 use mathlib.Core.Logic.{⊎-elim}
-use mathlib.Core.Bool.{Bool, true, false}
-use Prim.Native.Nat.{ℕ, zero, suc, _+_, _-_, _*_, _/_, _%_, _≤_, _<_}
+use mathlib.Core.Bool.{Bool, true, false, _&&_}
+use Prim.Native.Nat.{ℕ, zero, suc, _+_, _-_, _*_, _/_, _≤_, _<_}
 use native.Mathlib.Omega.{arith}
-use lib.Dec.{T}
-use borrow.Author.Tests.{le-leb, lt-leb}
+use lib.Dec.{T, leb, ltb, eqb}
+use borrow.Author.Tests.{leb-true}
 use Rattle.reckoning.specs.Search.{pick}
 use Rattle.reckoning.proofs.Searches.{between-low, between-high, below, beyond, le-or-lt}
 use Rattle.planets.specs.declared.Apparition.{Apparition}
-use Rattle.planets.specs.declared.synodic.ConjunctionParts.{ConjunctionParts}
-use Rattle.planets.specs.Planets.{isPlanet}
-use Rattle.planets.specs.Conjunctions.{interval, rest, remaining, takesHalf, time, kind, conjunctionOf}
-
-abbrev standing : ℕ → ℕ → Apparition → ConjunctionParts
-standing solstice time kind = record { instant = solstice + time; time = time; kind = kind }
+use Rattle.planets.specs.Planets.{isPlanet, planetOf}
+use Rattle.planets.specs.Conjunctions.{rest, remaining, takesHalf, lessHalf, kindFrom, time, conjunctionOf, interval}
 
 module _ (K : ℕ) (halved : Bool) where
   pub interval-half : halved ≡ true → K / 2 ≡ interval K halved
@@ -31,27 +27,45 @@ module _ (K : ℕ) (halved : Bool) where
       go true = omega arith
       go false = omega arith
 
-module _ (P K : ℕ) (halved : Bool) (y : ℕ) where
-  pub is-neither : halved ≡ false → standing (y * P) (K - y * P % K) Apparition.Neither ≡ conjunctionOf P K halved y
-  unfolding conjunctionOf time kind takesHalf remaining rest
-  is-neither e = rw e
+  module _ (t : ℕ) where
+    pub time-less : takesHalf K halved t ≡ true → t - K / 2 ≡ lessHalf K halved t
+    unfolding lessHalf
+    time-less e = rw e
 
-  pub is-morning : halved ≡ true → K / 2 ≤ K - y * P % K → standing (y * P) (K - y * P % K - K / 2) Apparition.Morning ≡ conjunctionOf P K halved y
-  unfolding conjunctionOf time kind takesHalf remaining rest
-  is-morning e h = rw (e, le-leb (K / 2) (K - y * P % K) h)
+    pub time-whole : takesHalf K halved t ≡ false → t ≡ lessHalf K halved t
+    unfolding lessHalf
+    time-whole e = rw e
 
-  pub is-evening : halved ≡ true → K - y * P % K < K / 2 → standing (y * P) (K - y * P % K) Apparition.Evening ≡ conjunctionOf P K halved y
-  unfolding conjunctionOf time kind takesHalf remaining rest
-  is-evening e h = rw (e, lt-leb (K / 2) (K - y * P % K) h)
+    pub is-morning : takesHalf K halved t ≡ true → (K / 2 ≤ t) × (Apparition.Morning ≡ kindFrom K halved t)
+    unfolding takesHalf kindFrom
+    is-morning = go halved
+      where
+        go : (b : Bool) → (b && leb (K / 2) t) ≡ true → (K / 2 ≤ t) × (Apparition.Morning ≡ pick b (pick (b && leb (K / 2) t) Apparition.Morning Apparition.Evening) Apparition.Neither)
+        go true e = (leb-true (K / 2) t e, rw e)
+        go false e = absurd (subst T (sym e) tt)
 
-  -- the time is at most the number
-  pub time-most : time P K halved y ≤ K
-  unfolding time remaining
-  time-most = go (takesHalf P K halved y)
+    pub is-evening : takesHalf K halved t ≡ false → halved ≡ true → Apparition.Evening ≡ kindFrom K halved t
+    unfolding kindFrom
+    is-evening e h = rw (e, h)
+
+    pub is-neither : halved ≡ false → Apparition.Neither ≡ kindFrom K halved t
+    unfolding kindFrom
+    is-neither h = rw h
+
+  -- the time is at most what remained
+  pub less-most : (t : ℕ) → lessHalf K halved t ≤ t
+  unfolding lessHalf
+  less-most t = go (takesHalf K halved t)
     where
-      go : (b : Bool) → pick b (K - rest P K y - K / 2) (K - rest P K y) ≤ K
+      go : (b : Bool) → pick b (t - K / 2) t ≤ t
       go true = omega arith
       go false = omega arith
+
+module _ (P K : ℕ) (halved : Bool) (y : ℕ) where
+  -- so it is at most the number
+  pub time-most : time P K halved y ≤ K
+  unfolding time remaining
+  time-most = omega (arith, less-most K halved (K - rest P K y))
 
   pub instant-most : conjunctionOf P K halved y .instant ≤ y * P + K
   unfolding conjunctionOf
@@ -71,6 +85,17 @@ each-planet A a b c d e (suc (suc (suc (suc zero)))) h = d
 each-planet A a b c d e (suc (suc (suc (suc (suc zero))))) h = e
 each-planet A a b c d e (suc (suc (suc (suc (suc (suc p)))))) h =
     absurd (omega (arith, between-high 1 (suc (suc (suc (suc (suc (suc p)))))) 6 h))
+
+-- the planets' numbers by choices
+abbrev chosen : ℕ → ℕ
+chosen p = pick (ltb p 4) (pick (eqb p 1) 6723888 (pick (eqb p 2) 13149083 6374061)) (pick (eqb p 4) 9843882 1953716)
+
+pub period-chosen : (p : ℕ) → T (isPlanet p) → chosen p ≡ planetOf p .period
+period-chosen = each-planet (λ p. chosen p ≡ planetOf p .period) refl refl refl refl refl
+
+-- the halved planets are those from 4 on
+pub halved-from : (p : ℕ) → T (isPlanet p) → leb 4 p ≡ planetOf p .halved
+halved-from = each-planet (λ p. leb 4 p ≡ planetOf p .halved) refl refl refl refl refl
 
 -- a planet that is none of the five
 pub outside : (p : ℕ) → (p ≡ 1 → ⊥) → (p ≡ 2 → ⊥) → (p ≡ 3 → ⊥) → (p ≡ 4 → ⊥) → (p ≡ 5 → ⊥) → isPlanet p ≡ false

@@ -12,7 +12,7 @@ use Rattle.reckoning.specs.Search.{pick, times}
 use Rattle.reckoning.proofs.Searches.{le-or-lt}
 use Rattle.planets.specs.declared.Apparition.{Apparition}
 use Rattle.planets.specs.declared.synodic.ConjunctionParts.{ConjunctionParts}
-use Rattle.planets.specs.Conjunctions.{turned, interval, following, rest, remaining, takesHalf, time, kind, conjunctionOf}
+use Rattle.planets.specs.Conjunctions.{turned, interval, following, rest, remaining, takesHalf, lessHalf, kindFrom, time, kind, conjunctionOf}
 use Rattle.planets.specs.Law.{SoundPeriod, kindAt, From, Same, ordinal, Comes, OfYear}
 
 -- an odd ordinal is a morning one's, an even one an evening one's
@@ -47,7 +47,7 @@ record Found (P K : ℕ) (halved : Bool) (y : ℕ) : Type 0 where
 module _ (P K y : ℕ) where
   -- not halved
   whole : SoundPeriod K false → Found P K false y
-  unfolding time takesHalf kind remaining rest ordinal
+  unfolding time kind lessHalf kindFrom takesHalf remaining rest ordinal
   whole n =
       let d = div-add-mod' (y * P) K in
       let r = mod-lt (y * P) (n .positive) in
@@ -71,7 +71,7 @@ module _ (P K y : ℕ) where
     halves = let e : K ≡ 2 * (K / 2) = omega (arith, n .even tt) in (e, ap (λ (x : ℕ). y * P / K * x) e)
 
     morning : y * P % K ≤ K / 2 → Found P K true y
-    unfolding time takesHalf kind remaining rest ordinal
+    unfolding time kind lessHalf kindFrom takesHalf remaining rest ordinal
     morning h =
         let d = div-add-mod' (y * P) K in
         let m = halves in
@@ -98,7 +98,7 @@ module _ (P K y : ℕ) where
         }
 
     evening : K / 2 < y * P % K → Found P K true y
-    unfolding time takesHalf kind remaining rest ordinal
+    unfolding time kind lessHalf kindFrom takesHalf remaining rest ordinal
     evening h =
         let d = div-add-mod' (y * P) K in
         let r = mod-lt (y * P) (n .positive) in

@@ -13,9 +13,9 @@ use Rattle.planets.specs.declared.Apparition.{Apparition}
 use Rattle.planets.specs.declared.ConjunctionsAnswer.{ConjunctionsAnswer}
 use Rattle.planets.specs.declared.synodic.Planet.{Planet}
 use Rattle.planets.specs.declared.synodic.ConjunctionParts.{ConjunctionParts}
-use Rattle.planets.specs.Conjunctions.{rest, remaining, takesHalf, time, kind, conjunctionOf, turned, interval, following}
+use Rattle.planets.specs.Conjunctions.{rest, remaining, takesHalf, lessHalf, kindFrom, time, kind, conjunctionOf, turned, interval, following}
 use Rattle.planets.specs.Law.{SoundPeriod, kindAt, ordinal, OfYear}
-use Rattle.planets.specs.Planets.{SoundPlanet, mercury, isPlanet, planetAt}
+use Rattle.planets.specs.Planets.{SoundPlanet, mercury, isPlanet, planetOf}
 use Rattle.planets.specs.Answers.{inDays, shown, conjunctionsOf, conjunctionsNumber, conjunctionsValues}
 use Rattle.planets.specs.Jobs.{conjunctionsIn, conjunctionsFor, conjunctionsAt}
 use Rattle.planets.specs.Shown.{partsOf, Shows, ShowsYear}
@@ -28,9 +28,9 @@ whole h r = record { number = record { positive = h; even = λ n. absurd n }; ro
 halved : {K : ℕ} → 0 < K → K < 16777216 → K % 2 ≡ 0 → SoundPlanet (record { period = K; halved = true })
 halved h r e = record { number = record { positive = h; even = λ _. e }; room = r }
 
-pub planet-sound : (p : ℕ) → T (isPlanet p) → SoundPlanet (planetAt p)
+pub planet-sound : (p : ℕ) → T (isPlanet p) → SoundPlanet (planetOf p)
 planet-sound =
-    each-planet (λ p. SoundPlanet (planetAt p))
+    each-planet (λ p. SoundPlanet (planetOf p))
     (whole (lit< tt) (lit< tt))
     (whole (lit< tt) (lit< tt))
     (whole (lit< tt) (lit< tt))
@@ -71,26 +71,26 @@ shows-year k s y =
     }
 
 -- every year of the round and every planet is answered
-answered : (n p : ℕ) → T (isYear n) → T (isPlanet p) → conjunctionsAt n p ≡ ConjunctionsAnswer.Answered (conjunctionsOf (planetAt p) (n - 1))
+answered : (n p : ℕ) → T (isYear n) → T (isPlanet p) → conjunctionsAt n p ≡ ConjunctionsAnswer.Answered (conjunctionsOf (planetOf p) (n - 1))
 unfolding conjunctionsFor conjunctionsIn
 answered n p h k = of-year (λ a. conjunctionsFor a p) n ∙ rw (T-true (isYear n) h, T-true (isPlanet p) k)
 
 -- THE JOB, in year n of the round and of planet p: answered, by the law, in its own figures
 pub record Promise (n p : ℕ) : Type 0 where
   pub number : conjunctionsNumber (conjunctionsAt n p) ≡ 0
-  pub law : OfYear P (planetAt p .period) (planetAt p .halved) (n - 1)
-  pub shows : ShowsYear (planetAt p) (n - 1) (conjunctionsValues (conjunctionsAt n p))
+  pub law : OfYear P (planetOf p .period) (planetOf p .halved) (n - 1)
+  pub shows : ShowsYear (planetOf p) (n - 1) (conjunctionsValues (conjunctionsAt n p))
 
 pub conjunctions-promise : (n p : ℕ) → T (isYear n) → T (isPlanet p) → Promise n p
 conjunctions-promise n p h k =
     let e = answered n p h k in
     record {
       number = rw e;
-      law = law (planetAt p) (planet-sound p k) (n - 1);
-      shows = rw e (shows-year (planetAt p) (planet-sound p k) (n - 1));
+      law = law (planetOf p) (planet-sound p k) (n - 1);
+      shows = rw e (shows-year (planetOf p) (planet-sound p k) (n - 1));
     }
 
 -- the one year of the round in which a time of exactly half decides: Mercury, year 976,859, morning at the solstice itself
 pub at-half : conjunctionOf P (mercury .period) (mercury .halved) 976858 ≡ record { instant = 976858 * P; time = 0; kind = Apparition.Morning }
-unfolding conjunctionOf time kind takesHalf remaining rest
+unfolding conjunctionOf time kind lessHalf kindFrom takesHalf remaining rest
 at-half = refl

@@ -8,7 +8,7 @@ use Rattle.reckoning.specs.Search.{pick}
 use Rattle.reckoning.proofs.Searches.{through}
 use Rattle.refusal.specs.declared.Refusal.{Refusal}
 use Rattle.units.proofs.Years.{isYear, of-year}
-use Rattle.planets.specs.Planets.{isPlanet, planetAt}
+use Rattle.planets.specs.Planets.{isPlanet, planetOf}
 use Rattle.planets.specs.Answers.{conjunctionsOf, conjunctionsNumber, conjunctionsValues, zeroConjunctions, stagesNumber, stagesCount}
 use Rattle.planets.specs.Stages.{stagesOf, inRoom, noStages}
 use Rattle.planets.specs.Jobs.{conjunctionsIn, conjunctionsFor, conjunctionsAt, stagesAt}
@@ -21,7 +21,7 @@ unfolding conjunctionsFor conjunctionsIn
 conjunctions-numbers n p =
     of-year (λ a. conjunctionsNumber (conjunctionsFor a p)) n
     ∙ ap (λ (x : ℕ). pick (isYear n) x 1)
-    (through conjunctionsNumber (isPlanet p) (ConjunctionsAnswer.Answered (conjunctionsOf (planetAt p) (n - 1))) (ConjunctionsAnswer.Refused Refusal.Planet))
+    (through conjunctionsNumber (isPlanet p) (ConjunctionsAnswer.Answered (conjunctionsOf (planetOf p) (n - 1))) (ConjunctionsAnswer.Refused Refusal.Planet))
 
 -- where the number is not 0, the values are all zero
 pub conjunctions-zero : (a : ConjunctionsAnswer) → ¬ (conjunctionsNumber a ≡ 0) → conjunctionsValues a ≡ zeroConjunctions

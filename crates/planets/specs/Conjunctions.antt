@@ -17,18 +17,26 @@ module _ (P K : ℕ) where
   unfoldable pub remaining : ℕ → ℕ
   remaining y = K - rest y
 
-module _ (P K : ℕ) (halved : Bool) where
-  -- a halved planet takes the half off if what remains is at least half the number
+module _ (K : ℕ) (halved : Bool) where
+  -- a halved planet takes the half off a time that is at least half the number
   unfoldable pub takesHalf : ℕ → Bool
-  takesHalf y = halved && leb (K / 2) (remaining P K y)
+  takesHalf t = halved && leb (K / 2) t
 
-  -- the time from the solstice to the next conjunction: the half comes off once only
-  unfoldable pub time : ℕ → ℕ
-  time y = pick (takesHalf y) (remaining P K y - K / 2) (remaining P K y)
+  -- off it comes, once only
+  unfoldable pub lessHalf : ℕ → ℕ
+  lessHalf t = pick (takesHalf t) (t - K / 2) t
 
   -- then it is a morning conjunction (晨合), else an evening one (夕合); of a planet that isn't halved it is neither
+  unfoldable pub kindFrom : ℕ → Apparition
+  kindFrom t = pick halved (pick (takesHalf t) Apparition.Morning Apparition.Evening) Apparition.Neither
+
+module _ (P K : ℕ) (halved : Bool) where
+  -- the time from the solstice to the next conjunction, and its kind
+  unfoldable pub time : ℕ → ℕ
+  time y = lessHalf K halved (remaining P K y)
+
   unfoldable pub kind : ℕ → Apparition
-  kind y = pick halved (pick (takesHalf y) Apparition.Morning Apparition.Evening) Apparition.Neither
+  kind y = kindFrom K halved (remaining P K y)
 
   -- THE CONJUNCTION OF YEAR y: it stands that time after the solstice
   unfoldable pub conjunctionOf : ℕ → ConjunctionParts

@@ -11,7 +11,7 @@ use Rattle.units.specs.Xinghe.{P, D}
 use Rattle.planets.specs.declared.Stage.{Stage}
 use Rattle.planets.specs.declared.StageKind.{StageKind}
 use Rattle.planets.specs.declared.StageKind.the-variants.{Unused, Hidden, Direct, Station, Retrograde}
-use Rattle.planets.specs.Planets.{planetAt}
+use Rattle.planets.specs.Planets.{planetOf}
 use Rattle.planets.specs.Stages.{stagesOf}
 
 -- the days of all stages, in parts over D
@@ -57,6 +57,6 @@ allFit (s ∷ l) = fits (s .kind) s && allFit l
 -- THE STAGES OF PLANET p ADD UP: the days to its number, the degrees to its number too where it is halved, else to its number less P
 -- (周天), which the sun goes beside; and each fits its kind
 pub record AddsUp (p : ℕ) : Type 0 where
-  pub days : daysOf (stagesOf p) ≡ planetAt p .period
-  pub degrees : degreesOf (stagesOf p) ≡ pos (pick (planetAt p .halved) (planetAt p .period) (planetAt p .period - P))
+  pub days : daysOf (stagesOf p) ≡ planetOf p .period
+  pub degrees : degreesOf (stagesOf p) ≡ pos (pick (planetOf p .halved) (planetOf p .period) (planetOf p .period - P))
   pub fit : T (allFit (stagesOf p))

@@ -7,7 +7,7 @@ use Rattle.refusal.specs.declared.Refusal.{Refusal}
 use Rattle.lunisolar.specs.Calendars.{yearAt}
 use Rattle.lunisolar.specs.declared.YearAnswer.{YearAnswer}
 use Rattle.units.specs.Xinghe.{xinghe}
-use Rattle.planets.specs.Planets.{isPlanet, planetAt}
+use Rattle.planets.specs.Planets.{isPlanet, planetOf}
 use Rattle.planets.specs.Answers.{conjunctionsOf}
 use Rattle.planets.specs.Stages.{noStages, inRoom, stagesOf}
 use Rattle.planets.specs.declared.ConjunctionsAnswer.{ConjunctionsAnswer}
@@ -17,7 +17,7 @@ use Rattle.planets.specs.declared.StagesAnswer.{StagesAnswer}
 -- of planet p and the year with y years past: refused under 9 for a planet outside 1 to 5
 unfoldable pub conjunctionsIn : ℕ → ℕ → ConjunctionsAnswer
 conjunctionsIn y p =
-    pick (isPlanet p) (ConjunctionsAnswer.Answered (conjunctionsOf (planetAt p) y)) (ConjunctionsAnswer.Refused Refusal.Planet)
+    pick (isPlanet p) (ConjunctionsAnswer.Answered (conjunctionsOf (planetOf p) y)) (ConjunctionsAnswer.Refused Refusal.Planet)
 
 -- of year n as it is written: refused under 1 first
 unfoldable pub conjunctionsFor : YearAnswer → ℕ → ConjunctionsAnswer

@@ -37,8 +37,8 @@ abbrev pub isPlanet : ℕ → Bool
 isPlanet p = between 1 p (suc (length planets))
 
 -- the planet with that number; of any other number nothing is made of it
-abbrev pub planetAt : ℕ → Planet
-planetAt p = getD planets (p - 1) jupiter
+abbrev pub planetOf : ℕ → Planet
+planetOf p = getD planets (p - 1) jupiter
 
 -- what the code asks of a planet: what the law asks of its number, and room in 64 bits for the round and two of them
 pub record SoundPlanet (k : Planet) : Type 0 where

@@ -72,19 +72,17 @@ pub struct StagesAnswer {
     pub stages: [Stage; 14],
 }
 
-// Each planet has an arm of its own, so that its divisions are by a constant.
 fn conjunctions_in(y: u64, planet: u64) -> ConjunctionsAnswer
     requires { ⌜ y < 1048576 ⌝ }
     ensures { λ r. ⌜ r ≡ conjunctionsIn y planet ⌝ }
 {
-    match planet {
-        1 => ConjunctionsAnswer::Answered(synodic::conjunctions_of(synodic::JUPITER, y)),
-        2 => ConjunctionsAnswer::Answered(synodic::conjunctions_of(synodic::MARS, y)),
-        3 => ConjunctionsAnswer::Answered(synodic::conjunctions_of(synodic::SATURN, y)),
-        4 => ConjunctionsAnswer::Answered(synodic::conjunctions_of(synodic::VENUS, y)),
-        5 => ConjunctionsAnswer::Answered(synodic::conjunctions_of(synodic::MERCURY, y)),
-        _ => ConjunctionsAnswer::Refused(Refusal::Planet),
+    if planet < 1 {
+        return ConjunctionsAnswer::Refused(Refusal::Planet);
     }
+    if synodic::PLANETS < planet {
+        return ConjunctionsAnswer::Refused(Refusal::Planet);
+    }
+    ConjunctionsAnswer::Answered(synodic::conjunctions_of(synodic::planet_of(planet), y))
 }
 
 pub fn conjunctions(year: u64, planet: u64) -> ConjunctionsAnswer

@@ -6,9 +6,11 @@ use units::Xinghe;
 use units::remainder::DegreeRemainder;
 ghost use mathlib.Core.Path.{_≡_};
 ghost use Prim.Native.Nat.{_<_};
+ghost use lib.Dec.{T};
+ghost use Rattle.reckoning.specs.Search.{pick};
 ghost use Rattle.units.specs.Xinghe.{P};
-ghost use Rattle.planets.specs.Conjunctions.{conjunctionOf, turned, interval, following};
-ghost use Rattle.planets.specs.Planets.{SoundPlanet};
+ghost use Rattle.planets.specs.Conjunctions.{takesHalf, lessHalf, kindFrom, conjunctionOf, turned, interval, following};
+ghost use Rattle.planets.specs.Planets.{SoundPlanet, isPlanet, planetOf};
 ghost use Rattle.planets.specs.Answers.{shown, conjunctionsOf};
 
 // A planet by its number (數): the parts from a conjunction to the next of the same kind, and whether half of them brings one already.
@@ -17,30 +19,45 @@ pub struct Planet {
     pub halved: bool,
 }
 
-pub const JUPITER: Planet = Planet {
-    period: 6723888,
-    halved: false,
-};
+// The planets are numbered from 1 to this.
+pub const PLANETS: u64 = 5;
 
-pub const MARS: Planet = Planet {
-    period: 13149083,
-    halved: false,
-};
+const JUPITER: u64 = 6723888;
 
-pub const SATURN: Planet = Planet {
-    period: 6374061,
-    halved: false,
-};
+const MARS: u64 = 13149083;
 
-pub const VENUS: Planet = Planet {
-    period: 9843882,
-    halved: true,
-};
+const SATURN: u64 = 6374061;
 
-pub const MERCURY: Planet = Planet {
-    period: 1953716,
-    halved: true,
-};
+const VENUS: u64 = 9843882;
+
+const MERCURY: u64 = 1953716;
+
+fn choose(yes: bool, a: u64, b: u64) -> u64
+    ensures { λ r. ⌜ r ≡ pick yes a b ⌝ }
+{
+    if yes { a } else { b }
+}
+
+// By choices and not by a `match`: where planets come in any order, a jump to each one's own arithmetic is guessed wrongly too often.
+fn period_of(planet: u64) -> u64
+    requires { ⌜ T (isPlanet planet) ⌝ }
+    ensures { λ r. ⌜ r ≡ planetOf planet .period ⌝ }
+{
+    let outer = choose(planet == 1, JUPITER, choose(planet == 2, MARS, SATURN));
+    let inner = choose(planet == 4, VENUS, MERCURY);
+    choose(planet < 4, outer, inner)
+}
+
+// Venus (4) and Mercury (5) take the half off.
+pub fn planet_of(planet: u64) -> Planet
+    requires { ⌜ T (isPlanet planet) ⌝ }
+    ensures { λ r. ⌜ r ≡ planetOf planet ⌝ }
+{
+    Planet {
+        period: period_of(planet),
+        halved: 4 <= planet,
+    }
+}
 
 // A conjunction in parts: since the origin, and since the year's solstice.
 pub struct ConjunctionParts {
@@ -65,6 +82,35 @@ fn interval_of(k: Planet) -> u64
     if k.halved { k.period / 2 } else { k.period }
 }
 
+// Whether half of the number is taken off what remains of it. Both are worked out, so that nothing is jumped over.
+fn takes_half(k: Planet, remaining: u64) -> bool
+    ensures { λ r. ⌜ r ≡ takesHalf (k .period) (k .halved) remaining ⌝ }
+{
+    k.halved & (k.period / 2 <= remaining)
+}
+
+fn less_half(k: Planet, remaining: u64) -> u64
+    ensures { λ r. ⌜ r ≡ lessHalf (k .period) (k .halved) remaining ⌝ }
+{
+    if takes_half(k, remaining) {
+        remaining - k.period / 2
+    } else {
+        remaining
+    }
+}
+
+fn kind_from(k: Planet, remaining: u64) -> Apparition
+    ensures { λ r. ⌜ r ≡ kindFrom (k .period) (k .halved) remaining ⌝ }
+{
+    if takes_half(k, remaining) {
+        return Apparition::Morning;
+    }
+    if k.halved {
+        return Apparition::Evening;
+    }
+    Apparition::Neither
+}
+
 // The conjunction of the year with y years past.
 fn conjunction_of(k: Planet, y: u64) -> ConjunctionParts
     requires { ⌜ SoundPlanet k × (y < 1048576) ⌝ }
@@ -72,25 +118,11 @@ fn conjunction_of(k: Planet, y: u64) -> ConjunctionParts
 {
     let solstice = y * Xinghe::P;
     let remaining = k.period - solstice % k.period;
-    let half = k.period / 2;
-    if k.halved {
-        if half <= remaining {
-            return ConjunctionParts {
-                instant: solstice + (remaining - half),
-                time: remaining - half,
-                kind: Apparition::Morning,
-            };
-        }
-        return ConjunctionParts {
-            instant: solstice + remaining,
-            time: remaining,
-            kind: Apparition::Evening,
-        };
-    }
+    let time = less_half(k, remaining);
     ConjunctionParts {
-        instant: solstice + remaining,
-        time: remaining,
-        kind: Apparition::Neither,
+        instant: solstice + time,
+        time,
+        kind: kind_from(k, remaining),
     }
 }
 
