@@ -1,5 +1,6 @@
 // Refusals and edges: the first and last values that each question answers, and the first that it refuses.
 use crate::lists;
+use crate::planet_edges;
 use crate::questions;
 
 pub fn ask_edges() {
@@ -12,6 +13,7 @@ pub fn ask_edges() {
     lists::ask_fills();
     ask_sky();
     ask_cuts();
+    planet_edges::ask_planets();
 }
 
 fn ask_years_and_places() {

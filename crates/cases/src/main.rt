@@ -2,6 +2,7 @@
 mod edges;
 mod fields;
 mod lists;
+mod planet_edges;
 mod questions;
 mod years;
 

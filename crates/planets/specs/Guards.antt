@@ -54,8 +54,8 @@ abbrev pub allFit : List Stage → Bool
 allFit [] = true
 allFit (s ∷ l) = fits (s .kind) s && allFit l
 
--- THE STAGES OF PLANET p ADD UP: the days to its number, the degrees to its number too where it is halved, else to its number less P
--- (周天), which the sun goes beside; and each fits its kind
+-- THE STAGES OF PLANET p ADD UP: the days to its number, the degrees to its number too where it is halved, else to its number
+-- less the P of the sun's own circuit (周天); and each fits its kind
 pub record AddsUp (p : ℕ) : Type 0 where
   pub days : daysOf (stagesOf p) ≡ planetOf p .period
   pub degrees : degreesOf (stagesOf p) ≡ pos (pick (planetOf p .halved) (planetOf p .period) (planetOf p .period - P))

@@ -36,7 +36,7 @@ planets = jupiter ∷ mars ∷ saturn ∷ venus ∷ mercury ∷ []
 abbrev pub isPlanet : ℕ → Bool
 isPlanet p = between 1 p (suc (length planets))
 
--- the planet with that number; of any other number nothing is made of it
+-- the planet with that number; asked for only where one has it
 abbrev pub planetOf : ℕ → Planet
 planetOf p = getD planets (p - 1) jupiter
 

@@ -32,7 +32,7 @@ stage days remainder degrees excess whole numerator denominator kind apparition 
       apparition = apparition;
     }
 
--- jupiter
+-- Jupiter (歲星)
 abbrev pub jupiterStages : List Stage
 jupiterStages =
     -- 晨與日合，在日後伏，十六日、日餘六千八百四，行星二度、度餘一萬三千一百七十五
@@ -55,7 +55,7 @@ jupiterStages =
     ∷ stage 16 6804 (pos 2) 13176 0 0 0 Hidden Evening
     ∷ []
 
--- mars
+-- Mars (熒惑)
 abbrev pub marsStages : List Stage
 marsStages =
     -- 晨與日合，在日後伏，七十一日、日餘一萬六千一，行星五十五度、度餘一萬三千九百四十三
@@ -78,7 +78,7 @@ marsStages =
     ∷ stage 71 16002 (pos 55) 13943 0 0 0 Hidden Evening
     ∷ []
 
--- saturn
+-- Saturn (鎮星)
 abbrev pub saturnStages : List Stage
 saturnStages =
     -- 晨與日合，在日後伏，十八日、日餘四百九十，行星二度、度餘六千八百六十二
@@ -97,7 +97,7 @@ saturnStages =
     ∷ stage 18 491 (pos 2) 6862 0 0 0 Hidden Evening
     ∷ []
 
--- venus
+-- Venus (太白): the evening half, then the morning half
 abbrev pub venusStages : List Stage
 venusStages =
     -- 夕與日合，在日前伏，四十一日、日餘一萬五千六百八十一，行星五十一度、度餘一萬五千六百八十一
@@ -130,7 +130,7 @@ venusStages =
     ∷ stage 41 15681 (pos 51) 15681 0 0 0 Hidden Morning
     ∷ []
 
--- mercury
+-- Mercury (辰星): the evening half, then the morning half
 abbrev pub mercuryStages : List Stage
 mercuryStages =
     -- 夕與日合，在日前伏，十七日、日餘一萬五千八百三十八，行星三十四度、度餘一萬五千八百三十八
@@ -155,7 +155,7 @@ mercuryStages =
     ∷ stage 17 15838 (pos 34) 15838 0 0 0 Hidden Morning
     ∷ []
 
--- numbered as the planets are; of any other number nothing is made of it
+-- numbered as the planets are; asked for only where a planet has that number
 abbrev pub stagesOf : ℕ → List Stage
 stagesOf p = getD (jupiterStages ∷ marsStages ∷ saturnStages ∷ venusStages ∷ mercuryStages ∷ []) (p - 1) []
 

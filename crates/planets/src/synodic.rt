@@ -22,6 +22,9 @@ pub struct Planet {
 // The planets are numbered from 1 to this.
 pub const PLANETS: u64 = 5;
 
+// From this one on, Venus and Mercury, they take the half off.
+const HALVED_FROM: u64 = 4;
+
 const JUPITER: u64 = 6723888;
 
 const MARS: u64 = 13149083;
@@ -45,17 +48,16 @@ fn period_of(planet: u64) -> u64
 {
     let outer = choose(planet == 1, JUPITER, choose(planet == 2, MARS, SATURN));
     let inner = choose(planet == 4, VENUS, MERCURY);
-    choose(planet < 4, outer, inner)
+    choose(planet < HALVED_FROM, outer, inner)
 }
 
-// Venus (4) and Mercury (5) take the half off.
 pub fn planet_of(planet: u64) -> Planet
     requires { ⌜ T (isPlanet planet) ⌝ }
     ensures { λ r. ⌜ r ≡ planetOf planet ⌝ }
 {
     Planet {
         period: period_of(planet),
-        halved: 4 <= planet,
+        halved: HALVED_FROM <= planet,
     }
 }
 

@@ -10,6 +10,8 @@ use node::Distance;
 use node::Node;
 use node::Nodes;
 use node::Side;
+use planets::Conjunction;
+use planets::TwoConjunctions;
 use sun::Point;
 use walking::Sign;
 
@@ -126,4 +128,24 @@ pub fn fed_corrections(digest: Digest, corrections: Corrections) -> Digest {
     let full_anomaly = full.anomaly;
     let with_anomaly = fed_anomaly(with_new, full_anomaly).feed(full_anomaly.half);
     fed_moved_instant(with_anomaly, full).feed(full.half)
+}
+
+fn fed_conjunction(digest: Digest, conjunction: Conjunction) -> Digest {
+    let time = conjunction.time;
+    let rest = time.remainder;
+    let since = conjunction.since;
+    let over = since.remainder;
+    let kind = conjunction.kind;
+    digest
+        .feed(time.whole)
+        .feed(rest.parts)
+        .feed(since.whole)
+        .feed(over.parts)
+        .feed(kind.number())
+}
+
+pub fn fed_conjunctions(digest: Digest, conjunctions: TwoConjunctions) -> Digest {
+    let first = conjunctions.first;
+    let second = conjunctions.second;
+    fed_conjunction(fed_conjunction(digest, first), second)
 }

@@ -12,13 +12,19 @@ pub const ERA_YEARS: u64 = 168600;
 pub struct Survey {
     pub counts: Counts,
     pub digest: Digest,
+    pub planets: Digest,
 }
 
 impl Survey {
     pub fn new() -> Self {
         let counts = Counts::new();
         let digest = Digest::new();
-        Self { counts, digest }
+        let planets = Digest::new();
+        Self {
+            counts,
+            digest,
+            planets,
+        }
     }
 
     fn month(self, year: u64, place: u64) -> Self {
@@ -32,7 +38,12 @@ impl Survey {
         let digest = fields::fed_corrections(with_nodes, corrections);
         let counted = self.counts;
         let counts = counted.count_month(row, nodes);
-        Self { counts, digest }
+        let planets = self.planets;
+        Self {
+            counts,
+            digest,
+            planets,
+        }
     }
 
     fn months(self, year: u64, months: u64) -> Self {
@@ -51,10 +62,15 @@ impl Survey {
         let digest = feed_cut(feed_cut(feed_cut(before, year, 24), year, 60), year, 72);
         let counted = self.counts;
         let counts = counted.count_year(head.leap);
-        Self { counts, digest }.months(year, head.months)
+        let planets = feed_planets(self.planets, year);
+        Self {
+            counts,
+            digest,
+            planets,
+        }.months(year, head.months)
     }
 
-    // An era's counts added, and its digest fed, to those of the round.
+    // An era's counts added, and its digests fed, to those of the round.
     pub fn add_era(self, era: Survey) -> Self {
         let round_counts = self.counts;
         let era_counts = era.counts;
@@ -62,16 +78,26 @@ impl Survey {
         let round_digest = self.digest;
         let era_digest = era.digest;
         let digest = round_digest.feed_digest(era_digest);
-        Self { counts, digest }
+        let round_planets = self.planets;
+        let era_planets = era.planets;
+        let planets = round_planets.feed_digest(era_planets);
+        Self {
+            counts,
+            digest,
+            planets,
+        }
     }
 
     pub fn write(self, title: Line) {
         let counts = self.counts;
         let digest = self.digest;
+        let planets = self.planets;
         counts
             .on_line(title)
             .text(b" digest")
             .number(digest.value())
+            .text(b" planets")
+            .number(planets.value())
             .write();
     }
 }
@@ -85,6 +111,19 @@ fn feed_cut(digest: Digest, year: u64, cut: u64) -> Digest {
         index += 1;
     }
     fed
+}
+
+fn feed_planet(digest: Digest, year: u64, planet: u64) -> Digest {
+    fields::fed_conjunctions(digest, planets::conjunctions(year, planet).values())
+}
+
+// Every planet's conjunctions of the year.
+fn feed_planets(digest: Digest, year: u64) -> Digest {
+    let jupiter = feed_planet(digest, year, 1);
+    let mars = feed_planet(jupiter, year, 2);
+    let saturn = feed_planet(mars, year, 3);
+    let venus = feed_planet(saturn, year, 4);
+    feed_planet(venus, year, 5)
 }
 
 // The era that begins after so many years.
