@@ -16,12 +16,14 @@
  *   6                 the lent list is too short for the year's rows
  *   7                 the day number is above 369,481,019
  *   8                 the cut is not 24, 60 or 72, or the point not below it
+ *   9                 the planet is outside 1 to 5
  *
  * Years are written from 1. A place is a month's index in its year, from 0;
  * place 0 is the eleventh month. Days are counted from the origin, from 0, and
  * day 0 is jiazi. Months of the round (lunations) are counted from 0. A
- * remainder of a day or a degree is over 208,530, that of a solstice or of a
- * cut's point over 16,860.
+ * remainder of a day or a degree is over 208,530; that of a solstice, of a
+ * cut's point and of the planets over 16,860. The planets are 1 Jupiter,
+ * 2 Mars, 3 Saturn, 4 Venus, 5 Mercury.
  *
  * What the caller sees to: a pointer is not null and is aligned, also where the
  * length beside it is 0; it points to as many numbers as its parameter or the
@@ -49,7 +51,8 @@ enum {
     XINGHE_CARRY = 5,
     XINGHE_LIST = 6,
     XINGHE_DAY = 7,
-    XINGHE_CUT = 8
+    XINGHE_CUT = 8,
+    XINGHE_PLANET = 9
 };
 
 /* A year's head. Refused: 1.
@@ -160,6 +163,35 @@ uint64_t xinghe_corrections(uint64_t year, uint64_t place, uint64_t out[14]);
  * out[2]  rest of a part, over the cut */
 uint64_t xinghe_cut_point(uint64_t year, uint64_t cut, uint64_t index,
                           uint64_t out[3]);
+
+/* A planet's next conjunction after the solstice of a year, and the one after
+ * it. Refused: 1, 9. Both may lie years on, or past the round.
+ * the next conjunction
+ * out[0]  days from the year's solstice
+ * out[1]  their remainder, over 16,860
+ * out[2]  day
+ * out[3]  its remainder, over 16,860
+ * out[4]  1 a morning conjunction, 2 an evening one; 0 for planets 1 to 3
+ * the one after it
+ * out[5] to out[9]  the same, out[5] and out[6] from the same solstice */
+uint64_t xinghe_conjunctions(uint64_t year, uint64_t planet, uint64_t out[10]);
+
+/* The stages of a planet from one conjunction to the next, as they are printed.
+ * Refused: 9.
+ * count[0]   how many stages there are, 7 to 14
+ * out[i]     stage i, from 0; all zeros where there are no more
+ * out[i][0]  days
+ * out[i][1]  their remainder, over 16,860
+ * out[i][2]  1 where the planet goes back, so that the degrees are below 0, else 0
+ * out[i][3]  size of the degrees
+ * out[i][4]  their remainder, over 16,860
+ * out[i][5]  daily motion: whole degrees
+ * out[i][6]  and a fraction of one: its numerator
+ * out[i][7]  and denominator; all three are 0 where no motion is printed
+ * out[i][8]  1 hidden, 2 direct, 3 station, 4 retrograde; 0 no stage
+ * out[i][9]  what is printed: 1 morning, 2 evening, 0 neither */
+uint64_t xinghe_stages(uint64_t planet, uint64_t count[1],
+                       uint64_t out[14][10]);
 
 #ifdef __cplusplus
 }

@@ -10,7 +10,7 @@ use borrow.Author.Tests.{leb-true}
 use Rattle.reckoning.specs.Search.{pick}
 use Rattle.reckoning.proofs.Searches.{between-low, between-high, below, beyond, le-or-lt}
 use Rattle.planets.specs.declared.Apparition.{Apparition}
-use Rattle.planets.specs.Planets.{isPlanet, planetOf}
+use Rattle.planets.specs.Planets.{jupiter, mars, saturn, venus, mercury, isPlanet, planetOf}
 use Rattle.planets.specs.Conjunctions.{rest, remaining, takesHalf, lessHalf, kindFrom, time, conjunctionOf, interval}
 
 module _ (K : ℕ) (halved : Bool) where
@@ -88,7 +88,7 @@ each-planet A a b c d e (suc (suc (suc (suc (suc (suc p)))))) h =
 
 -- the planets' numbers by choices
 abbrev chosen : ℕ → ℕ
-chosen p = pick (ltb p 4) (pick (eqb p 1) 6723888 (pick (eqb p 2) 13149083 6374061)) (pick (eqb p 4) 9843882 1953716)
+chosen p = pick (ltb p 4) (pick (eqb p 1) (jupiter .period) (pick (eqb p 2) (mars .period) (saturn .period))) (pick (eqb p 4) (venus .period) (mercury .period))
 
 pub period-chosen : (p : ℕ) → T (isPlanet p) → chosen p ≡ planetOf p .period
 period-chosen = each-planet (λ p. chosen p ≡ planetOf p .period) refl refl refl refl refl
