@@ -1,7 +1,10 @@
 -- The answers of the planets' jobs (02 §1): conjunctions in days and remainders over D; each answer's number, 0 where it is answered, and
 -- its values, all zero where it is refused. The zero of a kind is "neither", of a stage's kind "unused".
 -- Assumes nothing.
+use mathlib.Core.Bool.{Bool, true, false, cond}
+use mathlib.Core.List.{List, [], _∷_}
 use Prim.Native.Nat.{ℕ}
+use lib.IntN.{ℤ, pos, negsuc, natAbs}
 use Rattle.refusal.specs.Numbers.{numberOf}
 use Rattle.units.specs.Xinghe.{P}
 use Rattle.units.specs.Units.{degreeCarry}
@@ -10,6 +13,7 @@ use Rattle.planets.specs.declared.Apparition.{Apparition}
 use Rattle.planets.specs.declared.Conjunction.{Conjunction}
 use Rattle.planets.specs.declared.TwoConjunctions.{TwoConjunctions}
 use Rattle.planets.specs.declared.ConjunctionsAnswer.{ConjunctionsAnswer}
+use Rattle.planets.specs.declared.Stage.{Stage}
 use Rattle.planets.specs.declared.StageCount.{StageCount}
 use Rattle.planets.specs.declared.StageKind.{StageKind}
 use Rattle.planets.specs.declared.synodic.Planet.{Planet}
@@ -58,6 +62,18 @@ stageKindNumber StageKind.Hidden = 1
 stageKindNumber StageKind.Direct = 2
 stageKindNumber StageKind.Station = 3
 stageKindNumber StageKind.Retrograde = 4
+
+-- degrees that are gone back
+abbrev pub isBack : ℤ → Bool
+isBack (pos n) = false
+isBack (negsuc n) = true
+
+-- a stage's ten numbers: days and remainder, degrees by whether they are gone back and by their size, their remainder, daily motion, the
+-- number of its kind, that of morning or evening
+abbrev pub stageFields : Stage → List ℕ
+stageFields s =
+    s .days ∷ s .remainder .parts ∷ cond (isBack (s .degrees)) 1 0 ∷ natAbs (s .degrees) ∷ s .excess .parts
+    ∷ s .whole ∷ s .numerator ∷ s .denominator ∷ stageKindNumber (s .kind) ∷ apparitionNumber (s .apparition) ∷ []
 
 -- of the stages' count; the stages stand beside it
 abbrev pub stagesNumber : StageCount → ℕ

@@ -5,23 +5,20 @@ use mathlib.Core.Bool.{Bool, true, false, not, _&&_}
 use mathlib.Core.List.{List, [], _∷_}
 use Prim.Native.Nat.{ℕ, _+_, _-_, _*_}
 use lib.Dec.{T, eqb}
-use lib.IntN.{ℤ, pos, negsuc, negℤ, _+ℤ_, natAbs}
+use lib.IntN.{ℤ, pos, negℤ, _+ℤ_, natAbs}
 use Rattle.reckoning.specs.Search.{pick}
 use Rattle.units.specs.Xinghe.{P, D}
 use Rattle.planets.specs.declared.Stage.{Stage}
 use Rattle.planets.specs.declared.StageKind.{StageKind}
 use Rattle.planets.specs.declared.StageKind.the-variants.{Unused, Hidden, Direct, Station, Retrograde}
 use Rattle.planets.specs.Planets.{planetOf}
+use Rattle.planets.specs.Answers.{isBack}
 use Rattle.planets.specs.Stages.{stagesOf}
 
 -- the days of all stages, in parts over D
 abbrev pub daysOf : List Stage → ℕ
 daysOf [] = 0
 daysOf (s ∷ l) = s .days * D + s .remainder .parts + daysOf l
-
-abbrev isBack : ℤ → Bool
-isBack (pos n) = false
-isBack (negsuc n) = true
 
 -- the size of a stage's degrees, in parts over D
 abbrev arcOf : Stage → ℕ

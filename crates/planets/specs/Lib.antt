@@ -5,4 +5,5 @@ pub mod Answers
 pub mod Shown
 pub mod Stages
 pub mod Guards
+pub mod Rows
 pub mod Jobs

@@ -9,6 +9,7 @@ ghost use Prim.Native.Nat.{_<_};
 ghost use Rattle.planets.specs.Jobs.{conjunctionsIn, conjunctionsAt, stagesAt};
 
 pub mod answers;
+pub mod decode;
 pub mod synodic;
 pub mod table;
 
@@ -60,7 +61,6 @@ pub struct Stage {
     pub apparition: Apparition,
 }
 
-// How many stages a planet has.
 pub enum StageCount {
     Answered(u64),
     Refused(Refusal),
@@ -94,48 +94,26 @@ pub fn conjunctions(year: u64, planet: u64) -> ConjunctionsAnswer
     }
 }
 
+// How many stages a planet has.
+pub fn stage_count(planet: u64) -> StageCount
+    ensures { λ r. ⌜ r ≡ stagesAt planet .count ⌝ }
+{
+    match planet {
+        1 => StageCount::Answered(9),
+        2 => StageCount::Answered(9),
+        3 => StageCount::Answered(7),
+        4 => StageCount::Answered(14),
+        5 => StageCount::Answered(10),
+        _ => StageCount::Refused(Refusal::Planet),
+    }
+}
+
 pub fn stages(planet: u64) -> StagesAnswer
     ensures { λ r. ⌜ r ≡ stagesAt planet ⌝ }
 {
-    match planet {
-        1 => {
-            let stages = table::jupiter_stages();
-            StagesAnswer {
-                count: StageCount::Answered(9),
-                stages,
-            }
-        }
-        2 => {
-            let stages = table::mars_stages();
-            StagesAnswer {
-                count: StageCount::Answered(9),
-                stages,
-            }
-        }
-        3 => {
-            let stages = table::saturn_stages();
-            StagesAnswer {
-                count: StageCount::Answered(7),
-                stages,
-            }
-        }
-        4 => {
-            let stages = table::venus_stages();
-            StagesAnswer {
-                count: StageCount::Answered(14),
-                stages,
-            }
-        }
-        5 => {
-            let stages = table::mercury_stages();
-            StagesAnswer {
-                count: StageCount::Answered(10),
-                stages,
-            }
-        }
-        _ => StagesAnswer {
-            count: StageCount::Refused(Refusal::Planet),
-            stages: [table::NO_STAGE; 14],
-        },
+    let stages = decode::stages_of(table::rows_of(planet));
+    StagesAnswer {
+        count: stage_count(planet),
+        stages,
     }
 }

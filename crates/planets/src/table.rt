@@ -1,466 +1,139 @@
-// Each planet's stages, in print order, with room for the longest list.
-use crate::Apparition;
-use crate::Stage;
-use crate::StageKind;
-use units::remainder::DegreeRemainder;
+// Each planet's stages, in print order, with room for the longest list. A row has the stage's ten numbers: days, their remainder, 1 where
+// it goes back, degrees, their remainder, daily motion as whole degrees, numerator and denominator, the number of its kind, that of morning
+// or evening. Numbers are constants that are quickly checked and copied; `decode` makes stages of them.
 ghost use mathlib.Core.Path.{_≡_};
+ghost use mathlib.Core.List.{map};
 ghost use Rattle.planets.specs.Stages.{jupiterStages, marsStages, saturnStages, venusStages, mercuryStages, inRoom};
+ghost use Rattle.planets.specs.Answers.{stageFields};
+ghost use Rattle.planets.specs.Jobs.{stagesAt};
 
-pub const NO_STAGE: Stage = Stage {
-    days: 0,
-    remainder: DegreeRemainder { parts: 0 },
-    degrees: 0,
-    excess: DegreeRemainder { parts: 0 },
-    whole: 0,
-    numerator: 0,
-    denominator: 0,
-    kind: StageKind::Unused,
-    apparition: Apparition::Neither,
-};
+const UNUSED: [u64; 10] = [0; 10];
 
-const JUPITER: [Stage; 14] = [
-    Stage {
-        days: 16,
-        remainder: DegreeRemainder { parts: 6804 },
-        degrees: 2,
-        excess: DegreeRemainder { parts: 13175 },
-        kind: StageKind::Hidden,
-        apparition: Apparition::Morning,
-        ..NO_STAGE
-    },
-    Stage {
-        days: 58,
-        degrees: 11,
-        numerator: 11,
-        denominator: 58,
-        kind: StageKind::Direct,
-        apparition: Apparition::Morning,
-        ..NO_STAGE
-    },
-    Stage {
-        days: 58,
-        degrees: 9,
-        numerator: 9,
-        denominator: 58,
-        kind: StageKind::Direct,
-        ..NO_STAGE
-    },
-    Stage {
-        days: 25,
-        kind: StageKind::Station,
-        ..NO_STAGE
-    },
-    Stage {
-        days: 84,
-        degrees: -12,
-        numerator: 1,
-        denominator: 7,
-        kind: StageKind::Retrograde,
-        ..NO_STAGE
-    },
-    Stage {
-        days: 25,
-        kind: StageKind::Station,
-        ..NO_STAGE
-    },
-    Stage {
-        days: 58,
-        degrees: 9,
-        numerator: 9,
-        denominator: 58,
-        kind: StageKind::Direct,
-        ..NO_STAGE
-    },
-    Stage {
-        days: 58,
-        degrees: 11,
-        numerator: 11,
-        denominator: 58,
-        kind: StageKind::Direct,
-        ..NO_STAGE
-    },
-    Stage {
-        days: 16,
-        remainder: DegreeRemainder { parts: 6804 },
-        degrees: 2,
-        excess: DegreeRemainder { parts: 13176 },
-        kind: StageKind::Hidden,
-        apparition: Apparition::Evening,
-        ..NO_STAGE
-    },
-    NO_STAGE,
-    NO_STAGE,
-    NO_STAGE,
-    NO_STAGE,
-    NO_STAGE,
+const JUPITER: [[u64; 10]; 14] = [
+    [16, 6804, 0, 2, 13175, 0, 0, 0, 1, 1],
+    [58, 0, 0, 11, 0, 0, 11, 58, 2, 1],
+    [58, 0, 0, 9, 0, 0, 9, 58, 2, 0],
+    [25, 0, 0, 0, 0, 0, 0, 0, 3, 0],
+    [84, 0, 1, 12, 0, 0, 1, 7, 4, 0],
+    [25, 0, 0, 0, 0, 0, 0, 0, 3, 0],
+    [58, 0, 0, 9, 0, 0, 9, 58, 2, 0],
+    [58, 0, 0, 11, 0, 0, 11, 58, 2, 0],
+    [16, 6804, 0, 2, 13176, 0, 0, 0, 1, 2],
+    UNUSED,
+    UNUSED,
+    UNUSED,
+    UNUSED,
+    UNUSED,
 ];
 
-pub fn jupiter_stages() -> [Stage; 14]
-    ensures { λ r. ⌜ r ≡ inRoom jupiterStages ⌝ }
+fn jupiter_rows() -> [[u64; 10]; 14]
+    ensures { λ r. ⌜ r ≡ map stageFields (inRoom jupiterStages) ⌝ }
 {
     JUPITER
 }
 
-const MARS: [Stage; 14] = [
-    Stage {
-        days: 71,
-        remainder: DegreeRemainder { parts: 16001 },
-        degrees: 55,
-        excess: DegreeRemainder { parts: 13943 },
-        kind: StageKind::Hidden,
-        apparition: Apparition::Morning,
-        ..NO_STAGE
-    },
-    Stage {
-        days: 184,
-        degrees: 112,
-        numerator: 14,
-        denominator: 23,
-        kind: StageKind::Direct,
-        apparition: Apparition::Morning,
-        ..NO_STAGE
-    },
-    Stage {
-        days: 92,
-        degrees: 48,
-        numerator: 12,
-        denominator: 23,
-        kind: StageKind::Direct,
-        ..NO_STAGE
-    },
-    Stage {
-        days: 11,
-        kind: StageKind::Station,
-        ..NO_STAGE
-    },
-    Stage {
-        days: 62,
-        degrees: -17,
-        numerator: 17,
-        denominator: 62,
-        kind: StageKind::Retrograde,
-        ..NO_STAGE
-    },
-    Stage {
-        days: 11,
-        kind: StageKind::Station,
-        ..NO_STAGE
-    },
-    Stage {
-        days: 92,
-        degrees: 48,
-        numerator: 12,
-        denominator: 23,
-        kind: StageKind::Direct,
-        ..NO_STAGE
-    },
-    Stage {
-        days: 184,
-        degrees: 112,
-        numerator: 14,
-        denominator: 23,
-        kind: StageKind::Direct,
-        ..NO_STAGE
-    },
-    Stage {
-        days: 71,
-        remainder: DegreeRemainder { parts: 16002 },
-        degrees: 55,
-        excess: DegreeRemainder { parts: 13943 },
-        kind: StageKind::Hidden,
-        apparition: Apparition::Evening,
-        ..NO_STAGE
-    },
-    NO_STAGE,
-    NO_STAGE,
-    NO_STAGE,
-    NO_STAGE,
-    NO_STAGE,
+const MARS: [[u64; 10]; 14] = [
+    [71, 16001, 0, 55, 13943, 0, 0, 0, 1, 1],
+    [184, 0, 0, 112, 0, 0, 14, 23, 2, 1],
+    [92, 0, 0, 48, 0, 0, 12, 23, 2, 0],
+    [11, 0, 0, 0, 0, 0, 0, 0, 3, 0],
+    [62, 0, 1, 17, 0, 0, 17, 62, 4, 0],
+    [11, 0, 0, 0, 0, 0, 0, 0, 3, 0],
+    [92, 0, 0, 48, 0, 0, 12, 23, 2, 0],
+    [184, 0, 0, 112, 0, 0, 14, 23, 2, 0],
+    [71, 16002, 0, 55, 13943, 0, 0, 0, 1, 2],
+    UNUSED,
+    UNUSED,
+    UNUSED,
+    UNUSED,
+    UNUSED,
 ];
 
-pub fn mars_stages() -> [Stage; 14]
-    ensures { λ r. ⌜ r ≡ inRoom marsStages ⌝ }
+fn mars_rows() -> [[u64; 10]; 14]
+    ensures { λ r. ⌜ r ≡ map stageFields (inRoom marsStages) ⌝ }
 {
     MARS
 }
 
-const SATURN: [Stage; 14] = [
-    Stage {
-        days: 18,
-        remainder: DegreeRemainder { parts: 490 },
-        degrees: 2,
-        excess: DegreeRemainder { parts: 6862 },
-        kind: StageKind::Hidden,
-        apparition: Apparition::Morning,
-        ..NO_STAGE
-    },
-    Stage {
-        days: 84,
-        degrees: 7,
-        numerator: 1,
-        denominator: 12,
-        kind: StageKind::Direct,
-        apparition: Apparition::Morning,
-        ..NO_STAGE
-    },
-    Stage {
-        days: 36,
-        kind: StageKind::Station,
-        ..NO_STAGE
-    },
-    Stage {
-        days: 102,
-        degrees: -6,
-        numerator: 1,
-        denominator: 17,
-        kind: StageKind::Retrograde,
-        ..NO_STAGE
-    },
-    Stage {
-        days: 36,
-        kind: StageKind::Station,
-        ..NO_STAGE
-    },
-    Stage {
-        days: 84,
-        degrees: 7,
-        numerator: 1,
-        denominator: 12,
-        kind: StageKind::Direct,
-        ..NO_STAGE
-    },
-    Stage {
-        days: 18,
-        remainder: DegreeRemainder { parts: 491 },
-        degrees: 2,
-        excess: DegreeRemainder { parts: 6862 },
-        kind: StageKind::Hidden,
-        apparition: Apparition::Evening,
-        ..NO_STAGE
-    },
-    NO_STAGE,
-    NO_STAGE,
-    NO_STAGE,
-    NO_STAGE,
-    NO_STAGE,
-    NO_STAGE,
-    NO_STAGE,
+const SATURN: [[u64; 10]; 14] = [
+    [18, 490, 0, 2, 6862, 0, 0, 0, 1, 1],
+    [84, 0, 0, 7, 0, 0, 1, 12, 2, 1],
+    [36, 0, 0, 0, 0, 0, 0, 0, 3, 0],
+    [102, 0, 1, 6, 0, 0, 1, 17, 4, 0],
+    [36, 0, 0, 0, 0, 0, 0, 0, 3, 0],
+    [84, 0, 0, 7, 0, 0, 1, 12, 2, 0],
+    [18, 491, 0, 2, 6862, 0, 0, 0, 1, 2],
+    UNUSED,
+    UNUSED,
+    UNUSED,
+    UNUSED,
+    UNUSED,
+    UNUSED,
+    UNUSED,
 ];
 
-pub fn saturn_stages() -> [Stage; 14]
-    ensures { λ r. ⌜ r ≡ inRoom saturnStages ⌝ }
+fn saturn_rows() -> [[u64; 10]; 14]
+    ensures { λ r. ⌜ r ≡ map stageFields (inRoom saturnStages) ⌝ }
 {
     SATURN
 }
 
-const VENUS: [Stage; 14] = [
-    Stage {
-        days: 41,
-        remainder: DegreeRemainder { parts: 15681 },
-        degrees: 51,
-        excess: DegreeRemainder { parts: 15681 },
-        kind: StageKind::Hidden,
-        apparition: Apparition::Evening,
-        ..NO_STAGE
-    },
-    Stage {
-        days: 91,
-        degrees: 112,
-        whole: 1,
-        numerator: 3,
-        denominator: 13,
-        kind: StageKind::Direct,
-        apparition: Apparition::Evening,
-        ..NO_STAGE
-    },
-    Stage {
-        days: 91,
-        degrees: 105,
-        whole: 1,
-        numerator: 2,
-        denominator: 13,
-        kind: StageKind::Direct,
-        ..NO_STAGE
-    },
-    Stage {
-        days: 45,
-        degrees: 33,
-        numerator: 11,
-        denominator: 15,
-        kind: StageKind::Direct,
-        ..NO_STAGE
-    },
-    Stage {
-        days: 8,
-        kind: StageKind::Station,
-        ..NO_STAGE
-    },
-    Stage {
-        days: 9,
-        degrees: -6,
-        numerator: 2,
-        denominator: 3,
-        kind: StageKind::Retrograde,
-        ..NO_STAGE
-    },
-    Stage {
-        days: 6,
-        degrees: -4,
-        kind: StageKind::Hidden,
-        apparition: Apparition::Evening,
-        ..NO_STAGE
-    },
-    Stage {
-        days: 6,
-        degrees: -4,
-        kind: StageKind::Hidden,
-        apparition: Apparition::Morning,
-        ..NO_STAGE
-    },
-    Stage {
-        days: 9,
-        degrees: -6,
-        numerator: 2,
-        denominator: 3,
-        kind: StageKind::Retrograde,
-        apparition: Apparition::Morning,
-        ..NO_STAGE
-    },
-    Stage {
-        days: 8,
-        kind: StageKind::Station,
-        ..NO_STAGE
-    },
-    Stage {
-        days: 45,
-        degrees: 33,
-        numerator: 11,
-        denominator: 15,
-        kind: StageKind::Direct,
-        ..NO_STAGE
-    },
-    Stage {
-        days: 91,
-        degrees: 105,
-        whole: 1,
-        numerator: 2,
-        denominator: 13,
-        kind: StageKind::Direct,
-        ..NO_STAGE
-    },
-    Stage {
-        days: 91,
-        degrees: 112,
-        whole: 1,
-        numerator: 3,
-        denominator: 13,
-        kind: StageKind::Direct,
-        ..NO_STAGE
-    },
-    Stage {
-        days: 41,
-        remainder: DegreeRemainder { parts: 15681 },
-        degrees: 51,
-        excess: DegreeRemainder { parts: 15681 },
-        kind: StageKind::Hidden,
-        apparition: Apparition::Morning,
-        ..NO_STAGE
-    },
+const VENUS: [[u64; 10]; 14] = [
+    [41, 15681, 0, 51, 15681, 0, 0, 0, 1, 2],
+    [91, 0, 0, 112, 0, 1, 3, 13, 2, 2],
+    [91, 0, 0, 105, 0, 1, 2, 13, 2, 0],
+    [45, 0, 0, 33, 0, 0, 11, 15, 2, 0],
+    [8, 0, 0, 0, 0, 0, 0, 0, 3, 0],
+    [9, 0, 1, 6, 0, 0, 2, 3, 4, 0],
+    [6, 0, 1, 4, 0, 0, 0, 0, 1, 2],
+    [6, 0, 1, 4, 0, 0, 0, 0, 1, 1],
+    [9, 0, 1, 6, 0, 0, 2, 3, 4, 1],
+    [8, 0, 0, 0, 0, 0, 0, 0, 3, 0],
+    [45, 0, 0, 33, 0, 0, 11, 15, 2, 0],
+    [91, 0, 0, 105, 0, 1, 2, 13, 2, 0],
+    [91, 0, 0, 112, 0, 1, 3, 13, 2, 0],
+    [41, 15681, 0, 51, 15681, 0, 0, 0, 1, 1],
 ];
 
-pub fn venus_stages() -> [Stage; 14]
-    ensures { λ r. ⌜ r ≡ inRoom venusStages ⌝ }
+fn venus_rows() -> [[u64; 10]; 14]
+    ensures { λ r. ⌜ r ≡ map stageFields (inRoom venusStages) ⌝ }
 {
     VENUS
 }
 
-const MERCURY: [Stage; 14] = [
-    Stage {
-        days: 17,
-        remainder: DegreeRemainder { parts: 15838 },
-        degrees: 34,
-        excess: DegreeRemainder { parts: 15838 },
-        kind: StageKind::Hidden,
-        apparition: Apparition::Evening,
-        ..NO_STAGE
-    },
-    Stage {
-        days: 18,
-        degrees: 24,
-        whole: 1,
-        numerator: 1,
-        denominator: 3,
-        kind: StageKind::Direct,
-        apparition: Apparition::Evening,
-        ..NO_STAGE
-    },
-    Stage {
-        days: 7,
-        degrees: 5,
-        numerator: 5,
-        denominator: 7,
-        kind: StageKind::Direct,
-        ..NO_STAGE
-    },
-    Stage {
-        days: 4,
-        kind: StageKind::Station,
-        ..NO_STAGE
-    },
-    Stage {
-        days: 11,
-        degrees: -6,
-        kind: StageKind::Hidden,
-        apparition: Apparition::Evening,
-        ..NO_STAGE
-    },
-    Stage {
-        days: 11,
-        degrees: -6,
-        kind: StageKind::Hidden,
-        apparition: Apparition::Morning,
-        ..NO_STAGE
-    },
-    Stage {
-        days: 4,
-        kind: StageKind::Station,
-        apparition: Apparition::Morning,
-        ..NO_STAGE
-    },
-    Stage {
-        days: 7,
-        degrees: 5,
-        numerator: 5,
-        denominator: 7,
-        kind: StageKind::Direct,
-        ..NO_STAGE
-    },
-    Stage {
-        days: 18,
-        degrees: 24,
-        whole: 1,
-        numerator: 1,
-        denominator: 3,
-        kind: StageKind::Direct,
-        ..NO_STAGE
-    },
-    Stage {
-        days: 17,
-        remainder: DegreeRemainder { parts: 15838 },
-        degrees: 34,
-        excess: DegreeRemainder { parts: 15838 },
-        kind: StageKind::Hidden,
-        apparition: Apparition::Morning,
-        ..NO_STAGE
-    },
-    NO_STAGE,
-    NO_STAGE,
-    NO_STAGE,
-    NO_STAGE,
+const MERCURY: [[u64; 10]; 14] = [
+    [17, 15838, 0, 34, 15838, 0, 0, 0, 1, 2],
+    [18, 0, 0, 24, 0, 1, 1, 3, 2, 2],
+    [7, 0, 0, 5, 0, 0, 5, 7, 2, 0],
+    [4, 0, 0, 0, 0, 0, 0, 0, 3, 0],
+    [11, 0, 1, 6, 0, 0, 0, 0, 1, 2],
+    [11, 0, 1, 6, 0, 0, 0, 0, 1, 1],
+    [4, 0, 0, 0, 0, 0, 0, 0, 3, 1],
+    [7, 0, 0, 5, 0, 0, 5, 7, 2, 0],
+    [18, 0, 0, 24, 0, 1, 1, 3, 2, 0],
+    [17, 15838, 0, 34, 15838, 0, 0, 0, 1, 1],
+    UNUSED,
+    UNUSED,
+    UNUSED,
+    UNUSED,
 ];
 
-pub fn mercury_stages() -> [Stage; 14]
-    ensures { λ r. ⌜ r ≡ inRoom mercuryStages ⌝ }
+fn mercury_rows() -> [[u64; 10]; 14]
+    ensures { λ r. ⌜ r ≡ map stageFields (inRoom mercuryStages) ⌝ }
 {
     MERCURY
+}
+
+// The rows of a planet's stages: zeros where there is no such planet.
+pub fn rows_of(planet: u64) -> [[u64; 10]; 14]
+    ensures { λ r. ⌜ r ≡ map stageFields (stagesAt planet .stages) ⌝ }
+{
+    match planet {
+        1 => jupiter_rows(),
+        2 => mars_rows(),
+        3 => saturn_rows(),
+        4 => venus_rows(),
+        5 => mercury_rows(),
+        _ => [UNUSED; 14],
+    }
 }

@@ -13,7 +13,7 @@ use Rattle.node.specs.declared.Nodes.{Nodes}
 use Rattle.anomaly.specs.Amounts.{sizedOf}
 use Rattle.anomaly.specs.declared.Corrections.{Corrections}
 use Rattle.sun.specs.declared.Point.{Point}
-use Rattle.planets.specs.Answers.{apparitionNumber, stageKindNumber}
+use Rattle.planets.specs.Answers.{apparitionNumber, stageFields}
 use Rattle.planets.specs.declared.TwoConjunctions.{TwoConjunctions}
 use Rattle.planets.specs.declared.Stage.{Stage}
 
@@ -74,12 +74,6 @@ conjunctionsFields c =
     ∷ apparitionNumber (c .first .kind)
     ∷ c .second .time .whole ∷ c .second .time .remainder .parts ∷ c .second .since .whole ∷ c .second .since .remainder .parts
     ∷ apparitionNumber (c .second .kind) ∷ []
-
--- a stage: days and remainder, degrees by their sign and size, their remainder, daily motion, what the planet does, morning or evening
-abbrev pub stageFields : Stage → List ℕ
-stageFields s =
-    s .days ∷ s .remainder .parts ∷ bitOf (sizedOf (s .degrees) .minus) ∷ sizedOf (s .degrees) .size ∷ s .excess .parts
-    ∷ s .whole ∷ s .numerator ∷ s .denominator ∷ stageKindNumber (s .kind) ∷ apparitionNumber (s .apparition) ∷ []
 
 -- the stages, one after the other
 abbrev pub stagesFields : List Stage → List (List ℕ)

@@ -6,11 +6,10 @@ use calendar::MonthRow;
 use calendar::YearHead;
 use moon::phases::Phases;
 use node::Nodes;
-use planets::Stage;
 use planets::TwoConjunctions;
 use sun::Point;
 ghost use mathlib.Core.Path.{_≡_};
-ghost use Rattle.xinghe.specs.Fields.{bitOf, headFields, rowFields, dayFields, dateFields, phasesFields, nodesFields, correctionsFields, pointFields, conjunctionsFields, stageFields, stagesFields};
+ghost use Rattle.xinghe.specs.Fields.{bitOf, headFields, rowFields, dayFields, dateFields, phasesFields, nodesFields, correctionsFields, pointFields, conjunctionsFields};
 
 // Yes is 1 and no is 0.
 pub fn bit(yes: bool) -> u64
@@ -197,41 +196,4 @@ pub fn conjunctions_fields(conjunctions: TwoConjunctions) -> [u64; 10]
         second_over.parts,
         second_kind,
     ]
-}
-
-pub fn stage_fields(stage: Stage) -> [u64; 10]
-    ensures { λ r. ⌜ r ≡ stageFields stage ⌝ }
-{
-    let rest = stage.remainder;
-    let over = stage.excess;
-    let kind = stage.kind;
-    let apparition = stage.apparition;
-    let by = anomaly::amounts::sized_of(stage.degrees);
-    let minus = bit(by.minus);
-    let kind = kind.number();
-    let apparition = apparition.number();
-    [
-        stage.days,
-        rest.parts,
-        minus,
-        by.size,
-        over.parts,
-        stage.whole,
-        stage.numerator,
-        stage.denominator,
-        kind,
-        apparition,
-    ]
-}
-
-pub fn stages_fields(stages: [Stage; 14]) -> [[u64; 10]; 14]
-    ensures { λ r. ⌜ r ≡ stagesFields stages ⌝ }
-{
-    let mut fields = [[0; 10]; 14];
-    let mut i = 0;
-    while i < 14 {
-        fields[i] = stage_fields(stages[i]);
-        i += 1;
-    }
-    fields
 }

@@ -109,11 +109,9 @@ pub extern "C" fn xinghe_conjunctions(year: u64, planet: u64, out: &mut [u64; 10
 pub extern "C" fn xinghe_stages(planet: u64, count: &mut [u64; 1], out: &mut [[u64; 10]; 14]) -> u64
     ensures { λ r. ⌜ (r ≡ stagesNumber (stagesAt planet .count)) × (now (count .exit) ≡ stagesCount (stagesAt planet .count) ∷ []) × (now (out .exit) ≡ stagesFields (stagesAt planet .stages)) ⌝ }
 {
-    let answer = planets::stages(planet);
-    let stages = answer.stages;
-    let counted = answer.count;
+    let counted = planets::stage_count(planet);
     *count = [counted.value()];
-    *out = fields::stages_fields(stages);
+    *out = planets::table::rows_of(planet);
     counted.number()
 }
 
