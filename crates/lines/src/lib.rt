@@ -2,7 +2,7 @@
 use refusal::Refusal;
 use walking::Sign;
 
-// The longest line has 164 bytes and its end. What does not fit is left out, so that building a line asks nothing of its caller.
+// The longest line has 192 bytes and its end. What does not fit is left out, so that building a line asks nothing of its caller.
 pub struct Line {
     pub bytes: [u8; 256],
     pub len: usize,
