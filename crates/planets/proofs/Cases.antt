@@ -1,9 +1,9 @@
--- The definitions by what the code has found, and their bounds.
+-- The definitions by what the code has found.
 -- Assumes nothing.
 use mathlib.Core.Path.{_≡_, refl, sym, subst}
 use mathlib.Core.Logic.{⊎-elim}
 use mathlib.Core.Bool.{Bool, true, false, _&&_}
-use Prim.Native.Nat.{ℕ, zero, suc, _+_, _-_, _*_, _/_, _≤_, _<_}
+use Prim.Native.Nat.{ℕ, zero, suc, _-_, _/_, _≤_, _<_}
 use native.Mathlib.Omega.{arith}
 use lib.Dec.{T, leb, ltb, eqb}
 use borrow.Author.Tests.{leb-true}
@@ -11,7 +11,7 @@ use Rattle.reckoning.specs.Search.{pick}
 use Rattle.reckoning.proofs.Searches.{between-low, between-high, below, beyond, le-or-lt}
 use Rattle.planets.specs.declared.Apparition.{Apparition}
 use Rattle.planets.specs.Planets.{jupiter, mars, saturn, venus, mercury, isPlanet, planetOf}
-use Rattle.planets.specs.Conjunctions.{rest, remaining, takesHalf, lessHalf, kindFrom, time, conjunctionOf, interval}
+use Rattle.planets.specs.Conjunctions.{takesHalf, lessHalf, kindFrom, interval}
 
 module _ (K : ℕ) (halved : Bool) where
   pub interval-half : halved ≡ true → K / 2 ≡ interval K halved
@@ -19,13 +19,6 @@ module _ (K : ℕ) (halved : Bool) where
 
   pub interval-whole : halved ≡ false → K ≡ interval K halved
   interval-whole e = rw e
-
-  pub interval-most : interval K halved ≤ K
-  interval-most = go halved
-    where
-      go : (b : Bool) → pick b (K / 2) K ≤ K
-      go true = omega arith
-      go false = omega arith
 
   module _ (t : ℕ) where
     pub time-less : takesHalf K halved t ≡ true → t - K / 2 ≡ lessHalf K halved t
@@ -51,29 +44,6 @@ module _ (K : ℕ) (halved : Bool) where
     pub is-neither : halved ≡ false → Apparition.Neither ≡ kindFrom K halved t
     unfolding kindFrom
     is-neither h = rw h
-
-  -- the time is at most what remained
-  pub less-most : (t : ℕ) → lessHalf K halved t ≤ t
-  unfolding lessHalf
-  less-most t = go (takesHalf K halved t)
-    where
-      go : (b : Bool) → pick b (t - K / 2) t ≤ t
-      go true = omega arith
-      go false = omega arith
-
-module _ (P K : ℕ) (halved : Bool) (y : ℕ) where
-  -- so it is at most the number
-  pub time-most : time P K halved y ≤ K
-  unfolding time remaining
-  time-most = omega (arith, less-most K halved (K - rest P K y))
-
-  pub instant-most : conjunctionOf P K halved y .instant ≤ y * P + K
-  unfolding conjunctionOf
-  instant-most = omega (arith, time-most)
-
-  pub kept-time : conjunctionOf P K halved y .time ≤ K
-  unfolding conjunctionOf
-  kept-time = time-most
 
 -- what holds of planets 1 to 5 holds of every planet
 pub each-planet : (A : ℕ → Type 0) → A 1 → A 2 → A 3 → A 4 → A 5 → (p : ℕ) → T (isPlanet p) → A p

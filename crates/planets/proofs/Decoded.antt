@@ -4,11 +4,11 @@ use mathlib.Core.Path.{_≡_, refl}
 use mathlib.Core.Logic.{⊎-elim}
 use mathlib.Core.Bool.{Bool, true, cond, _&&_}
 use mathlib.Core.List.{List, [], _∷_, map}
-use Prim.Native.Nat.{ℕ, zero, suc, _<_}
+use Prim.Native.Nat.{ℕ, zero, suc}
 use native.Mathlib.Omega.{arith}
 use lib.Dec.{T, ltb, ltb→lt}
 use lib.IntN.{ℤ, pos, negsuc, natAbs}
-use lib.ListN.{getD, length}
+use lib.ListN.{getD}
 use Rattle.reckoning.proofs.Searches.{T-true, T-false, decide, both-left, both-right}
 use Rattle.planets.specs.declared.Apparition.{Apparition}
 use Rattle.planets.specs.declared.StageKind.{StageKind}

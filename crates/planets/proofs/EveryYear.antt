@@ -7,11 +7,10 @@ use Prim.Native.Nat.{ℕ, zero, suc, _+_, _-_, _*_, _/_, _%_, _≤_, _<_}
 use native.Mathlib.Omega.{arith}
 use native.Mathlib.Nat.{div-add-mod', mod-lt, mul-le-mul-right}
 use borrow.Author.Tests.{eqb-true, le-leb, lt-leb, eq-eqb, ne-eqb}
-use lib.Dec.{T, leb, eqb}
+use lib.Dec.{eqb}
 use Rattle.reckoning.specs.Search.{pick, times}
 use Rattle.reckoning.proofs.Searches.{le-or-lt}
 use Rattle.planets.specs.declared.Apparition.{Apparition}
-use Rattle.planets.specs.declared.synodic.ConjunctionParts.{ConjunctionParts}
 use Rattle.planets.specs.Conjunctions.{turned, interval, following, rest, remaining, takesHalf, lessHalf, kindFrom, time, kind, conjunctionOf}
 use Rattle.planets.specs.Law.{SoundPeriod, kindAt, From, Same, ordinal, Comes, OfYear}
 

@@ -1,6 +1,6 @@
 -- The five planets: what the law asks of a number holds of each, so the law does, and the answers show it in their own figures.
 -- Assumes nothing.
-use mathlib.Core.Path.{_≡_, _∙_, refl, sym, ap}
+use mathlib.Core.Path.{_≡_, _∙_, refl, ap}
 use mathlib.Core.Bool.{true, false}
 use Prim.Native.Nat.{ℕ, suc, _+_, _-_, _*_, _%_, _<_}
 use native.Mathlib.Omega.{arith}
@@ -14,7 +14,7 @@ use Rattle.planets.specs.declared.ConjunctionsAnswer.{ConjunctionsAnswer
 use Rattle.planets.specs.declared.synodic.Planet.{Planet}
 use Rattle.planets.specs.declared.synodic.ConjunctionParts.{ConjunctionParts}
 use Rattle.planets.specs.Conjunctions.{rest, remaining, takesHalf, lessHalf, kindFrom, time, kind, conjunctionOf, turned, interval, following}
-use Rattle.planets.specs.Law.{SoundPeriod, kindAt, ordinal, OfYear}
+use Rattle.planets.specs.Law.{kindAt, ordinal, OfYear}
 use Rattle.planets.specs.Planets.{SoundPlanet, mercury, isPlanet, planetOf}
 use Rattle.planets.specs.Answers.{inDays, shown, conjunctionsOf, conjunctionsNumber, conjunctionsValues}
 use Rattle.planets.specs.Jobs.{conjunctionsIn, conjunctionsFor, conjunctionsAt}

@@ -5,3 +5,4 @@ pub mod Five
 pub mod Mapped
 pub mod Printed
 pub mod Refusals
+pub mod Room

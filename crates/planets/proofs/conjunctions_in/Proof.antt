@@ -1,12 +1,9 @@
 use native.Mathlib.Omega.{arith}
-use mathlib.Core.Path.{_≡_, _∙_, refl}
-use Prim.Native.Nat.{_≤_, _<_}
 use lib.Dec.{T}
 use Rattle.reckoning.proofs.Searches.{T-true, between-T, below, beyond}
 use Rattle.planets.specs.Planets.{isPlanet}
 use Rattle.planets.specs.Jobs.{conjunctionsIn}
 use Rattle.planets.proofs.Five.{planet-sound}
-use borrow.Author.Needs.{needs}
 use Rattle.planets.proofs.conjunctions_in.Statement.{statement}
 use Rattle.planets.proofs.conjunctions_in.Tie as tie
 

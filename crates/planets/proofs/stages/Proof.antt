@@ -1,4 +1,3 @@
-use mathlib.Core.Path.{_≡_, sym}
 use Rattle.planets.specs.Jobs.{stagesAt}
 use Rattle.planets.proofs.Decoded.{stages-again, small-rows}
 use borrow.Author.Needs.{needs}

@@ -7,7 +7,6 @@ use lib.Seq.{paste}
 use Rattle.planets.specs.Stages.{noStages}
 use Rattle.planets.specs.Rows.{stageOf}
 use Rattle.planets.proofs.Mapped.{one-more, all-made}
-use borrow.Author.Needs.{needs}
 use Rattle.planets.proofs.decode.stages_of.Statement.{statement}
 use Rattle.planets.proofs.decode.stages_of.Tie as tie
 

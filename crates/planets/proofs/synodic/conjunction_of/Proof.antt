@@ -3,7 +3,7 @@ use Prim.Native.Nat.{_-_, _*_, _%_}
 use native.Mathlib.Nat.{mod-lt}
 use Rattle.units.specs.Xinghe.{P}
 use Rattle.planets.specs.Conjunctions.{rest, remaining, time, kind, conjunctionOf}
-use Rattle.planets.proofs.Cases.{less-most}
+use Rattle.planets.proofs.Room.{less-most}
 use borrow.Author.Needs.{needs}
 use Rattle.planets.proofs.synodic.conjunction_of.Statement.{statement}
 use Rattle.planets.proofs.synodic.conjunction_of.Tie as tie

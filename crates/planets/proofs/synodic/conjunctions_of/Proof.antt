@@ -2,7 +2,7 @@ use native.Mathlib.Omega.{arith}
 use mathlib.Core.Path.{ap}
 use Rattle.planets.specs.declared.synodic.ConjunctionParts.{ConjunctionParts}
 use Rattle.units.specs.Xinghe.{P}
-use Rattle.planets.proofs.Cases.{instant-most, kept-time}
+use Rattle.planets.proofs.Room.{instant-most, kept-time}
 use Rattle.planets.specs.Answers.{conjunctionsOf}
 use borrow.Author.Needs.{needs}
 use Rattle.planets.proofs.synodic.conjunctions_of.Statement.{statement}

@@ -1,5 +1,5 @@
 use native.Mathlib.Omega.{arith}
-use Rattle.planets.proofs.Cases.{interval-most}
+use Rattle.planets.proofs.Room.{interval-most}
 use Rattle.planets.specs.Conjunctions.{following}
 use borrow.Author.Needs.{needs}
 use Rattle.planets.proofs.synodic.following_of.Statement.{statement}

@@ -1,5 +1,4 @@
 use Rattle.planets.proofs.Cases.{interval-half, interval-whole}
-use borrow.Author.Needs.{needs}
 use Rattle.planets.proofs.synodic.interval_of.Statement.{statement}
 use Rattle.planets.proofs.synodic.interval_of.Tie as tie
 
