@@ -1,4 +1,4 @@
--- The stages as they are printed: they add up, and the answer shows all of them.
+-- The stages as they are printed: they hang together, and the answer shows all of them.
 -- Assumes nothing.
 use mathlib.Core.Path.{_≡_, refl}
 use Prim.Native.Nat.{ℕ}
@@ -16,11 +16,11 @@ use Rattle.planets.proofs.Cases.{each-planet}
 pub adds-up : (p : ℕ) → T (isPlanet p) → AddsUp p
 adds-up =
     each-planet AddsUp
-    (record { days = refl; degrees = refl; fit = tt })
-    (record { days = refl; degrees = refl; fit = tt })
-    (record { days = refl; degrees = refl; fit = tt })
-    (record { days = refl; degrees = refl; fit = tt })
-    (record { days = refl; degrees = refl; fit = tt })
+    (record { days = refl; next = refl; degrees = refl; fit = tt; mirror = refl; said = refl })
+    (record { days = refl; next = refl; degrees = refl; fit = tt; mirror = refl; said = refl })
+    (record { days = refl; next = refl; degrees = refl; fit = tt; mirror = refl; said = refl })
+    (record { days = refl; next = refl; degrees = refl; fit = tt; mirror = refl; said = refl })
+    (record { days = refl; next = refl; degrees = refl; fit = tt; mirror = refl; said = refl })
 
 -- THE ANSWER HAS THE PLANET'S STAGES, ALL OF THEM, up to its count, and zero from there on
 pub record ShowsAll (p : ℕ) : Type 0 where
