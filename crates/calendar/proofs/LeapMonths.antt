@@ -5,6 +5,7 @@ use mathlib.Core.Logic.{_⊎_, ⊎-elim, _↔_}
 use mathlib.Core.Bool.{Bool}
 use Prim.Native.Nat.{ℕ, suc, _+_, _-_, _*_, _/_, _≤_, _<_}
 use native.Mathlib.Omega.{arith}
+use native.Mathlib.Nat.{div-add-mod'}
 use lib.Dec.{T, leb, le→leb, leb→le}
 use borrow.Author.Tests.{le-leb, lt-leb}
 use Rattle.reckoning.specs.Search.{pick, between, firstFrom}
@@ -14,6 +15,7 @@ use Rattle.reckoning.proofs.Searches.{le-or-lt, first-is, between-low, between-
 use Rattle.reckoning.proofs.Leaps.{one-term, leap-holds-none, Common, Long, common, long, two-kinds}
 use Rattle.reckoning.proofs.Chapters.{common-year, long-year, leap-place}
 use Rattle.lunisolar.specs.Calendars.{leapRemainder}
+use Rattle.lunisolar.proofs.Laws.{before-is, rest-lt}
 use Rattle.sun.specs.Solstices.{solsticeOf}
 use Rattle.units.specs.Xinghe.{N, D, P, xinghe, means, rule, chapterMonths, chapterYears, chapterLeaps}
 use Rattle.units.proofs.Sound.{sound, laws}
@@ -21,6 +23,17 @@ use Rattle.calendar.specs.Heads.{headOf, yearHead}
 use Rattle.calendar.specs.declared.YearHead.{YearHead}
 use Rattle.calendar.specs.declared.HeadAnswer.{HeadAnswer}
 use Rattle.calendar.proofs.Round.{head-found}
+
+-- A HEAD'S MONTHS BEFORE AND LEAP REMAINDER ARE THE DIVISION'S TWO NUMBERS, as a reader checks them with the printed chapter
+pub head-division : (n : ℕ) (head : YearHead) → HeadAnswer.Answered head ≡ yearHead n →
+    (head .before * chapterYears + head .remainder ≡ (n - 1) * chapterMonths) × (head .remainder < chapterYears)
+unfolding headOf
+head-division n head e =
+    let y : ℕ = n - 1 in
+    let h = head-found n head e .is-head in (
+      rw (h, before-is xinghe sound y) (div-add-mod' (y * chapterMonths) chapterYears),
+      rw h (rest-lt xinghe sound y),
+    )
 
 -- A YEAR BEGINS WITH THE MONTH THAT HOLDS ITS SOLSTICE, which is its first middle term, and with no other
 pub solstice-month : (n : ℕ) (head : YearHead) → HeadAnswer.Answered head ≡ yearHead n → (m : ℕ) → T (rule .holds m (12 * (n - 1))) ↔ (m ≡ head .before)

@@ -5,9 +5,15 @@ use refusal::Refusal;
 use units::Xinghe;
 use walking::Target;
 ghost use mathlib.Core.Path.{_≡_};
+ghost use Prim.Native.Nat.{_<_};
 ghost use lib.IntN.{pos, negsuc};
+ghost use Rattle.reckoning.specs.Search.{pick};
+ghost use Rattle.refusal.specs.declared.Refusal.{Refusal};
+ghost use Rattle.units.specs.Xinghe.{roundMonths};
 ghost use Rattle.walking.specs.Walk.{genuine};
+ghost use Rattle.calendar.specs.Rows.{rowOf};
 ghost use Rattle.calendar.specs.Carries.{sameRow, months, carried};
+ghost use Rattle.calendar.specs.declared.RowAnswer.{RowAnswer};
 
 // Whether two rows are the same in every field.
 pub fn same_row(a: MonthRow, b: MonthRow) -> bool
@@ -37,18 +43,40 @@ impl MonthRow {
         same_row(self, crate::rows::row_of(m))
     }
 
+    // The row of month `to`, if this row is genuine, and else refusal 4. One look at the chapter serves the row that is tested and the one that
+    // is answered.
+    pub fn moved_to(self, to: u64) -> RowAnswer
+        requires { ⌜ (self .lunation < roundMonths) × (to < roundMonths) ⌝ }
+        ensures { λ r. ⌜ r ≡ pick (genuine months self) (RowAnswer.Answered (rowOf to)) (RowAnswer.Refused Refusal.Row) ⌝ }
+    {
+        let m = self.lunation;
+        let y = Xinghe::year_of(m);
+        let z = Xinghe::year_of(to);
+        let both = units::chapter::months_before(y, z);
+        if same_row(self, crate::rows::row_from(y, both.first, m)) {
+            RowAnswer::Answered(crate::rows::row_from(z, both.second, to))
+        } else {
+            RowAnswer::Refused(Refusal::Row)
+        }
+    }
+
     // The row so many months on, or back.
     pub fn carry(self, count: i64) -> RowAnswer
         ensures { λ r. ⌜ r ≡ carried self count ⌝ }
     {
         let m = self.lunation;
-        if self.is_genuine() {
-            match walking::reach(Xinghe::MONTHS, m, count) {
-                Target::Month(k) => RowAnswer::Answered(crate::rows::row_of(k)),
-                Target::Outside => RowAnswer::Refused(Refusal::Carry),
+        if Xinghe::MONTHS <= m {
+            return RowAnswer::Refused(Refusal::Row);
+        }
+        match walking::reach(Xinghe::MONTHS, m, count) {
+            Target::Month(k) => self.moved_to(k),
+            Target::Outside => {
+                if self.is_genuine() {
+                    RowAnswer::Refused(Refusal::Carry)
+                } else {
+                    RowAnswer::Refused(Refusal::Row)
+                }
             }
-        } else {
-            RowAnswer::Refused(Refusal::Row)
         }
     }
 

@@ -11,10 +11,11 @@ fn head_of(y: u64) -> YearHead
     requires { ⌜ y < 1048576 ⌝ }
     ensures { λ r. ⌜ r ≡ headOf y ⌝ }
 {
-    let before = Xinghe::months_before(y);
-    let remainder = Xinghe::leap_remainder(y);
-    let months = Xinghe::month_count(y);
-    let leap = Xinghe::leap_place(y);
+    let span = Xinghe::year_months(y);
+    let before = span.before;
+    let remainder = Xinghe::leap_remainder(y, before);
+    let months = lunisolar::month_count(span);
+    let leap = Xinghe::leap_place(y, before);
     let solstice = sun::winter_solstice(y);
     YearHead {
         before,

@@ -6,7 +6,7 @@ use lunisolar::LunationAnswer;
 use units::Xinghe;
 ghost use mathlib.Core.Path.{_≡_};
 ghost use Prim.Native.Nat.{_<_};
-ghost use Rattle.reckoning.specs.Rule.{leapPlace};
+ghost use Rattle.reckoning.specs.Rule.{leapPlace, yearOf};
 ghost use Rattle.units.specs.Xinghe.{rule, roundMonths};
 ghost use Rattle.calendar.specs.Heads.{yearHead};
 ghost use Rattle.calendar.specs.Rows.{Stands, rowOf, monthRow};
@@ -35,15 +35,23 @@ fn row_in(y: u64, leap: u64, place: u64, lunation: u64) -> MonthRow
     }
 }
 
+// The row of a month whose year, counted from 0, and the months before that year are at hand.
+pub fn row_from(y: u64, before: u64, lunation: u64) -> MonthRow
+    requires { ⌜ (lunation < roundMonths) × (y ≡ yearOf rule lunation) × (before ≡ rule .before y) ⌝ }
+    ensures { λ r. ⌜ r ≡ rowOf lunation ⌝ }
+{
+    let leap = Xinghe::leap_place(y, before);
+    row_in(y, leap, lunation - before, lunation)
+}
+
 // The row worked out from the origin for a month of the round.
 pub fn row_of(lunation: u64) -> MonthRow
     requires { ⌜ lunation < roundMonths ⌝ }
     ensures { λ r. ⌜ r ≡ rowOf lunation ⌝ }
 {
     let y = Xinghe::year_of(lunation);
-    let before = Xinghe::months_before(y);
-    let leap = Xinghe::leap_place(y);
-    row_in(y, leap, lunation - before, lunation)
+    let span = Xinghe::year_months(y);
+    row_from(y, span.before, lunation)
 }
 
 pub fn month_row(year: u64, place: u64) -> RowAnswer
@@ -51,7 +59,8 @@ pub fn month_row(year: u64, place: u64) -> RowAnswer
 {
     match Xinghe::lunation_at(year, place) {
         LunationAnswer::Lunation(m) => {
-            let leap = Xinghe::leap_place(year - 1);
+            // the month less its place is the months before its year, as the chapter gave them
+            let leap = Xinghe::leap_place(year - 1, m - place);
             RowAnswer::Answered(row_in(year - 1, leap, place, m))
         }
         LunationAnswer::Refused(e) => RowAnswer::Refused(e),

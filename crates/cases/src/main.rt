@@ -9,5 +9,6 @@ mod years;
 fn main() {
     years::ask_spread();
     years::ask_seams();
+    years::ask_chapter();
     edges::ask_edges();
 }

@@ -66,3 +66,12 @@ pub fn ask_seams() {
         i += 1;
     }
 }
+
+// The heads of a whole chapter, so that each entry of the printed chapter is written, and of the year that begins the next.
+pub fn ask_chapter() {
+    let mut past = 0;
+    while past <= units::Xinghe::CHAPTER {
+        questions::ask_head(past + 1);
+        past += 1;
+    }
+}

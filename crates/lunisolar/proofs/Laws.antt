@@ -12,6 +12,7 @@ use Rattle.reckoning.specs.Rule.{monthCount, leapPlace}
 use Rattle.reckoning.specs.Figures.{leapAt}
 use Rattle.reckoning.specs.Instants.{instants}
 use Rattle.reckoning.proofs.Searches.{chosen, inside, between-low, between-high}
+use Rattle.reckoning.proofs.Rates.{rate, rate-low, rate-rest}
 use Rattle.reckoning.proofs.Laws.{Laws}
 use Rattle.reckoning.proofs.Chapters.{instant-laws, common-year, leap-place-by}
 use Rattle.reckoning.proofs.Leaps.{year-high, year-ends, common}
@@ -32,6 +33,15 @@ module _ (k : Constants) (s : Sound k) where
   pub before-is : (y : ℕ) → ruleOf k .before y ≡ y * k .lunations / k .chapter
   unfolding instants
   before-is y = refl
+
+  -- times the chapter's years they leave, of the chapter's months times the year, the leap remainder
+  pub before-low : (y : ℕ) → ruleOf k .before y * k .chapter ≤ y * k .lunations
+  unfolding instants rate
+  before-low y = rate-low (k .lunations) (k .chapter) (s .rule .years-pos) y
+
+  pub remainder-is : (y : ℕ) → y * k .lunations - ruleOf k .before y * k .chapter ≡ leapRemainder k y
+  unfolding instants rate
+  remainder-is y = rate-rest (k .lunations) (k .chapter) (s .rule .years-pos) y
 
   -- 12 to 13 months a year
   pub before-bound : (y : ℕ) → ruleOf k .before y ≤ 13 * y

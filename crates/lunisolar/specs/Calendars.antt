@@ -1,6 +1,6 @@
 -- A calendar by its constants: its mean moon and sun, its leap rule, and the month at a place of a year.
 -- Assumes nothing.
-use Prim.Native.Nat.{ℕ, _+_, _-_, _*_, _%_, _≤_, _<_}
+use Prim.Native.Nat.{ℕ, suc, _+_, _-_, _*_, _%_, _≤_, _<_}
 use lib.Dec.{ltb}
 use Rattle.reckoning.specs.Search.{pick, between}
 use Rattle.reckoning.specs.Rule.{Rule, monthCount}
@@ -8,6 +8,7 @@ use Rattle.reckoning.specs.Means.{Means, MonthBound}
 use Rattle.reckoning.specs.Instants.{instants, ChapterBound}
 use Rattle.refusal.specs.declared.Refusal.{Refusal}
 use Rattle.lunisolar.specs.declared.Constants.{Constants}
+use Rattle.lunisolar.specs.declared.YearMonths.{YearMonths}
 use Rattle.lunisolar.specs.declared.YearAnswer.{YearAnswer}
 use Rattle.lunisolar.specs.declared.LunationAnswer.{LunationAnswer}
 
@@ -17,6 +18,10 @@ meansOf k = record { yearNum = k .year; yearDen = k .degree; monthNum = k .month
 -- THE LEAP RULE of every calendar: the rule of instants, over its chapter
 abbrev pub ruleOf : Constants → Rule
 ruleOf k = instants (meansOf k) (k .lunations) (k .chapter)
+
+-- the months before year y, and those until the next, which are the months before that
+abbrev pub yearMonths : Constants → ℕ → YearMonths
+yearMonths k y = record { before = ruleOf k .before y; until = ruleOf k .before (suc y) }
 
 -- the leap remainder (閏餘): what is left where the chapter's months times y are divided by its years
 abbrev pub leapRemainder : Constants → ℕ → ℕ

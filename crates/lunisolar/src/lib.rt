@@ -2,11 +2,14 @@
 // Years are counted from 0 here, and months from 0 over the whole calendar.
 use refusal::Refusal;
 ghost use mathlib.Core.Path.{_≡_};
-ghost use Prim.Native.Nat.{_+_, _≤_, _<_};
-ghost use Rattle.reckoning.specs.Rule.{monthCount};
+ghost use Prim.Native.Nat.{_+_, _-_, _≤_};
+ghost use lib.Dec.{ltb};
+ghost use Rattle.reckoning.specs.Search.{pick};
 ghost use Rattle.reckoning.specs.Dates.{monthOf};
 ghost use Rattle.reckoning.specs.Means.{newMoon};
-ghost use Rattle.lunisolar.specs.Calendars.{Sound, meansOf, ruleOf, yearAt, lunationAt};
+ghost use Rattle.refusal.specs.declared.Refusal.{Refusal};
+ghost use Rattle.lunisolar.specs.Calendars.{Sound, meansOf, yearAt};
+ghost use Rattle.lunisolar.specs.declared.LunationAnswer.{LunationAnswer};
 
 pub mod numbering;
 pub mod rule;
@@ -27,6 +30,13 @@ pub struct Constants {
     pub years: u64,
 }
 
+// The months before a year, and until the next one begins. Each calendar finds them its own way, by a table or a division, and hands them
+// in: nothing here works them out.
+pub struct YearMonths {
+    pub before: u64,
+    pub until: u64,
+}
+
 // How many years are past before a year as it is written.
 pub enum YearAnswer {
     Past(u64),
@@ -39,14 +49,12 @@ pub enum LunationAnswer {
     Refused(Refusal),
 }
 
-// The months of year y.
-pub fn month_count(k: Constants, y: u64) -> u64
-    requires { ⌜ Sound k × (y < 1048576) ⌝ }
-    ensures { λ r. ⌜ r ≡ monthCount (ruleOf k) y ⌝ }
+// The months of a year.
+pub fn month_count(months: YearMonths) -> u64
+    requires { ⌜ months .before ≤ months .until ⌝ }
+    ensures { λ r. ⌜ r ≡ months .until - months .before ⌝ }
 {
-    let before = rule::months_before(k, y);
-    let next = rule::months_before(k, y + 1);
-    next - before
+    months.until - months.before
 }
 
 // The month that a day lies in.
@@ -72,19 +80,14 @@ pub fn year_at(k: Constants, year: u64) -> YearAnswer
     YearAnswer::Past(past)
 }
 
-// The month at a place of a year as it is written: the year is tested first.
-pub fn lunation_at(k: Constants, year: u64, place: u64) -> LunationAnswer
-    requires { ⌜ Sound k ⌝ }
-    ensures { λ r. ⌜ r ≡ lunationAt k year place ⌝ }
+// The month at a place of a year with these months.
+pub fn lunation_in(months: YearMonths, place: u64) -> LunationAnswer
+    requires { ⌜ months .before ≤ months .until ⌝ }
+    ensures { λ r. ⌜ r ≡ pick (ltb place (months .until - months .before)) (LunationAnswer.Lunation (months .before + place)) (LunationAnswer.Refused Refusal.Place) ⌝ }
 {
-    match year_at(k, year) {
-        YearAnswer::Past(y) => {
-            if place < month_count(k, y) {
-                LunationAnswer::Lunation(rule::months_before(k, y) + place)
-            } else {
-                LunationAnswer::Refused(Refusal::Place)
-            }
-        }
-        YearAnswer::Refused(e) => LunationAnswer::Refused(e),
+    if place < month_count(months) {
+        LunationAnswer::Lunation(months.before + place)
+    } else {
+        LunationAnswer::Refused(Refusal::Place)
     }
 }

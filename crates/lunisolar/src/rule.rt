@@ -5,28 +5,20 @@ ghost use Prim.Native.Nat.{_≤_, _<_};
 ghost use Rattle.reckoning.specs.Rule.{leapPlace, yearOf};
 ghost use Rattle.lunisolar.specs.Calendars.{Sound, ruleOf, leapRemainder};
 
-// The months before year y (積月).
-pub fn months_before(k: Constants, y: u64) -> u64
-    requires { ⌜ Sound k × (y ≤ 1048576) ⌝ }
-    ensures { λ r. ⌜ r ≡ ruleOf k .before y ⌝ }
-{
-    y * k.lunations / k.chapter
-}
-
-// The leap remainder of year y (閏餘).
-pub fn leap_remainder(k: Constants, y: u64) -> u64
-    requires { ⌜ Sound k × (y ≤ 1048576) ⌝ }
+// The leap remainder of year y (閏餘), from the months before it: what they leave of the chapter's months times y.
+pub fn leap_remainder(k: Constants, y: u64, before: u64) -> u64
+    requires { ⌜ Sound k × (y ≤ 1048576) × (before ≡ ruleOf k .before y) ⌝ }
     ensures { λ r. ⌜ r ≡ leapRemainder k y ⌝ }
 {
-    y * k.lunations % k.chapter
+    y * k.lunations - before * k.chapter
 }
 
-// The place of the leap month of year y; 0 where it has none.
-pub fn leap_place(k: Constants, y: u64) -> u64
-    requires { ⌜ Sound k × (y < 1048576) ⌝ }
+// The place of the leap month of year y, from the months before it; 0 where it has none.
+pub fn leap_place(k: Constants, y: u64, before: u64) -> u64
+    requires { ⌜ Sound k × (y < 1048576) × (before ≡ ruleOf k .before y) ⌝ }
     ensures { λ r. ⌜ r ≡ leapPlace (ruleOf k) y ⌝ }
 {
-    let rest = leap_remainder(k, y);
+    let rest = leap_remainder(k, y, before);
     let leaps = k.lunations - 12 * k.chapter;
     if rest + leaps < k.chapter {
         return 0;

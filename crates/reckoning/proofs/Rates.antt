@@ -1,7 +1,7 @@
 -- A steady rate: n steps of a/b come to n·a/b, rounded down. Over k steps it gains what k·a/b bounds.
 -- Assumes nothing.
-use mathlib.Core.Path.{_≡_}
-use Prim.Native.Nat.{ℕ, suc, _+_, _*_, _/_, _≤_, _<_}
+use mathlib.Core.Path.{_≡_, ap}
+use Prim.Native.Nat.{ℕ, suc, _+_, _-_, _*_, _/_, _%_, _≤_, _<_}
 use native.Mathlib.Omega.{arith}
 use native.Mathlib.Nat.{le-div-iff-mul-le, div-lt-iff-lt-mul, div-add-mod', mod-lt}
 
@@ -39,3 +39,14 @@ module _ (a b : ℕ) (pos : 0 < b) where
   -- and at most d, where k·a is at most d·b
   pub rate-within : (d k n : ℕ) → k * a ≤ d * b → rate a b (n + k) ≤ rate a b n + d
   rate-within d k n h = omega (arith, rate-lt (rate a b n + d + 1) (n + k) (omega (arith, rate-high n)))
+
+  -- what is left by the rounding
+  pub rate-rest : (n : ℕ) → n * a - rate a b n * b ≡ n * a % b
+  unfolding rate
+  rate-rest n = omega (arith, div-add-mod' (n * a) b)
+
+  -- each whole b of the steps gains a, and the rest of them what they gain by themselves
+  pub rate-rounds : (n : ℕ) → rate a b n ≡ n / b * a + rate a b (n % b)
+  rate-rounds n =
+      let all = ap (λ (x : ℕ). x * a) (div-add-mod' n b) in
+      rate-is n (n / b * a + rate a b (n % b)) (omega (arith, all, rate-low (n % b))) (omega (arith, all, rate-high (n % b)))

@@ -1,13 +1,14 @@
 -- The laws of choices and bounded searches.
 -- Assumes nothing.
-use mathlib.Core.Path.{_≡_, refl, subst}
+use mathlib.Core.Path.{_≡_, refl, subst, ap, _∙_}
 use mathlib.Core.Logic.{_⊎_, inl, inr, ⊎-elim, _≢_}
 use mathlib.Core.Bool.{Bool, true, false, _&&_}
 use Prim.Native.Nat.{ℕ, zero, suc, _+_, _≤_, _<_}
 use native.Mathlib.Omega.{arith}
 use borrow.Author.Tests.{leb-true, leb-false, ltb-false}
 use lib.Dec.{T, leb, ltb, le→leb, leb→le, lt→ltb, ltb→lt}
-use Rattle.reckoning.specs.Search.{pick, between, any, firstFrom}
+use lib.ListN.{getD}
+use Rattle.reckoning.specs.Search.{pick, between, any, firstFrom, listFrom}
 
 pub T-true : (b : Bool) → T b → b ≡ true
 T-true true t = refl
@@ -149,3 +150,10 @@ all-at f (suc n) t k h =
     (λ (e : n ≤ k). let q : n ≡ k = omega arith in moved f q (both-left (f n) (all f n) t))
     (λ (e : k < n). all-at f n (both-right (f n) (all f n) t) k e)
     (le-or-lt n k)
+
+-- a table that is the list of f's values has f's value at each entry
+pub list-at : {A : Type 0} (f : ℕ → A) (d : A) (n p k : ℕ) → k < n → getD (listFrom f p n) k d ≡ f (p + k)
+unfolding listFrom
+list-at f d zero p k h = absurd (omega arith)
+list-at f d (suc n) p zero h = let e : p ≡ p + 0 = omega arith in ap f e
+list-at f d (suc n) p (suc k) h = let e : suc p + k ≡ p + suc k = omega arith in list-at f d n (suc p) k (omega arith) ∙ ap f e

@@ -1,6 +1,7 @@
 -- Choices, bounded searches and repetition, as the other definitions use them. Each computes.
 -- Assumes nothing.
 use mathlib.Core.Bool.{Bool, true, false, _&&_}
+use mathlib.Core.List.{List, [], _∷_}
 use Prim.Native.Nat.{ℕ, zero, suc}
 use lib.Dec.{leb, ltb}
 
@@ -22,6 +23,11 @@ any f (suc n) = pick (f n) true (any f n)
 unfoldable pub firstFrom : (ℕ → Bool) → ℕ → ℕ → ℕ
 firstFrom f p zero = 0
 firstFrom f p (suc n) = pick (f p) p (firstFrom f (suc p) n)
+
+-- f at each of the n numbers from p on, in order
+unfoldable pub listFrom : {A : Type 0} → (ℕ → A) → ℕ → ℕ → List A
+listFrom f p zero = []
+listFrom f p (suc n) = f p ∷ listFrom f (suc p) n
 
 -- f applied n times
 unfoldable pub times : {A : Type 0} → ℕ → (A → A) → A → A

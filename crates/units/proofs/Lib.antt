@@ -1,2 +1,3 @@
 pub mod Sound
 pub mod Years
+pub mod Table

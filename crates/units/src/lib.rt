@@ -2,15 +2,17 @@
 use lunisolar::Constants;
 use lunisolar::LunationAnswer;
 use lunisolar::YearAnswer;
+use lunisolar::YearMonths;
 ghost use mathlib.Core.Path.{_≡_};
 ghost use Prim.Native.Nat.{_≤_, _<_};
-ghost use Rattle.reckoning.specs.Rule.{monthCount, leapPlace, yearOf};
+ghost use Rattle.reckoning.specs.Rule.{leapPlace, yearOf};
 ghost use Rattle.reckoning.specs.Means.{newMoon};
 ghost use Rattle.reckoning.specs.Dates.{monthOf};
-ghost use Rattle.lunisolar.specs.Calendars.{yearAt, lunationAt, leapRemainder};
+ghost use Rattle.lunisolar.specs.Calendars.{yearAt, yearMonths, lunationAt, leapRemainder};
 ghost use Rattle.units.specs.Xinghe.{xinghe, means, rule};
 ghost use Rattle.units.specs.Units.{sexagenaryOf};
 
+pub mod chapter;
 pub mod remainder;
 
 pub struct Xinghe;
@@ -74,40 +76,41 @@ impl Xinghe {
         lunisolar::year_at(Xinghe::constants(), year)
     }
 
+    // The months before a year, counted from 0, and until the next.
+    pub fn year_months(y: u64) -> YearMonths
+        requires { ⌜ y < 1048576 ⌝ }
+        ensures { λ r. ⌜ r ≡ yearMonths xinghe y ⌝ }
+    {
+        let both = chapter::months_before(y, y + 1);
+        YearMonths {
+            before: both.first,
+            until: both.second,
+        }
+    }
+
     // The month of the round at a place of a year.
     pub fn lunation_at(year: u64, place: u64) -> LunationAnswer
         ensures { λ r. ⌜ r ≡ lunationAt xinghe year place ⌝ }
     {
-        lunisolar::lunation_at(Xinghe::constants(), year, place)
+        match Xinghe::year_at(year) {
+            YearAnswer::Past(y) => lunisolar::lunation_in(Xinghe::year_months(y), place),
+            YearAnswer::Refused(e) => LunationAnswer::Refused(e),
+        }
     }
 
-    // Of year y, counted from 0: the months before it, how many it has, its leap remainder and its leap place.
-    pub fn months_before(y: u64) -> u64
-        requires { ⌜ y ≤ 1048576 ⌝ }
-        ensures { λ r. ⌜ r ≡ rule .before y ⌝ }
-    {
-        lunisolar::rule::months_before(Xinghe::constants(), y)
-    }
-
-    pub fn month_count(y: u64) -> u64
-        requires { ⌜ y < 1048576 ⌝ }
-        ensures { λ r. ⌜ r ≡ monthCount rule y ⌝ }
-    {
-        lunisolar::month_count(Xinghe::constants(), y)
-    }
-
-    pub fn leap_remainder(y: u64) -> u64
-        requires { ⌜ y ≤ 1048576 ⌝ }
+    // Of a year, counted from 0, with the months before it: its leap remainder and its leap place.
+    pub fn leap_remainder(y: u64, before: u64) -> u64
+        requires { ⌜ (y ≤ 1048576) × (before ≡ rule .before y) ⌝ }
         ensures { λ r. ⌜ r ≡ leapRemainder xinghe y ⌝ }
     {
-        lunisolar::rule::leap_remainder(Xinghe::constants(), y)
+        lunisolar::rule::leap_remainder(Xinghe::constants(), y, before)
     }
 
-    pub fn leap_place(y: u64) -> u64
-        requires { ⌜ y < 1048576 ⌝ }
+    pub fn leap_place(y: u64, before: u64) -> u64
+        requires { ⌜ (y < 1048576) × (before ≡ rule .before y) ⌝ }
         ensures { λ r. ⌜ r ≡ leapPlace rule y ⌝ }
     {
-        lunisolar::rule::leap_place(Xinghe::constants(), y)
+        lunisolar::rule::leap_place(Xinghe::constants(), y, before)
     }
 
     // The year of a month, counted from 0, and the month of a day.

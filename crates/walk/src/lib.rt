@@ -1,5 +1,6 @@
 // A walk: a row carried by each of a list of signed counts in turn.
 use calendar::MonthRow;
+use calendar::RowAnswer;
 use refusal::Refusal;
 use units::Xinghe;
 ghost use mathlib.Core.Path.{_≡_};
@@ -51,23 +52,26 @@ impl WalkAnswer {
     }
 }
 
-// The first row is tested once, the month alone is moved, and one row is worked out at the end: by demand 3 that is the walk which carries
-// the row by each count.
+// The month alone is moved, and at the end the first row is tested and one row worked out: by demand 3 that is the walk which carries the row
+// by each count. The two rows come from one look at the chapter.
 pub fn walk(start: MonthRow, counts: &[i64]) -> WalkAnswer
     ensures { λ r. ⌜ r ≡ walkAnswer start (now (counts .entry)) ⌝ }
 {
-    if start.is_genuine() {
-        let from = start.lunation;
-        let end = walking::walk_months(Xinghe::MONTHS, from, counts);
-        let row = calendar::rows::row_of(end.month);
-        // refused carries move nothing, so the sum is how far the walk has come
-        let sum = walking::difference(end.month, from);
-        WalkAnswer::Answered(Walked {
-            row,
-            sum,
-            answered: end.answered,
-        })
-    } else {
-        WalkAnswer::Refused(Refusal::Row)
+    let from = start.lunation;
+    if Xinghe::MONTHS <= from {
+        return WalkAnswer::Refused(Refusal::Row);
+    }
+    let end = walking::walk_months(Xinghe::MONTHS, from, counts);
+    match start.moved_to(end.month) {
+        RowAnswer::Answered(row) => {
+            // refused carries move nothing, so the sum is how far the walk has come
+            let sum = walking::difference(end.month, from);
+            WalkAnswer::Answered(Walked {
+                row,
+                sum,
+                answered: end.answered,
+            })
+        }
+        RowAnswer::Refused(e) => WalkAnswer::Refused(e),
     }
 }

@@ -18,7 +18,6 @@ use Rattle.walking.specs.Walk.{Calendar, answered, refused, inRound, gen
 use Rattle.walking.specs.Paper.{finalMonth, answeredSteps}
 use Rattle.walking.specs.Signed.{targetOf}
 use Rattle.walking.specs.declared.Target.{Target}
-use Rattle.walking.proofs.Walks.{and-both}
 
 -- a month is reached only inside the round
 reached : (b : Bool) (n k : ℕ) → Target.Month k ≡ pick b (Target.Month n) Target.Outside → (b ≡ true) × (n ≡ k)
@@ -43,10 +42,6 @@ reached-below size z k e =
     omega (arith, inside size z (p .0), p .1)
 
 module _ {R : Type 0} (C : Calendar R) (r : R) where
-  -- a genuine row names a month of the round
-  pub own-month : genuine C r ≡ true → C .month r < C .size
-  own-month g = ltb-true (C .month r) (C .size) (and-both (ltb (C .month r) (C .size)) (C .same r (C .row (C .month r))) g .0)
-
   -- where the code's two tests end
   pub far : C .size ≤ C .month r → genuine C r ≡ false
   far h = rw (le-ltb (C .month r) (C .size) h)
@@ -58,13 +53,15 @@ module _ {R : Type 0} (C : Calendar R) (r : R) where
     pub carry-forged : genuine C r ≡ false → carry C r c ≡ refused Refusal.Row
     carry-forged g = rw g
 
-    pub carry-month : genuine C r ≡ true → (k : ℕ) → Target.Month k ≡ targetOf (C .size) (pos (C .month r) +ℤ c) → carry C r c ≡ answered (C .row k)
-    carry-month g k e =
+    pub carry-month : (k : ℕ) → Target.Month k ≡ targetOf (C .size) (pos (C .month r) +ℤ c) →
+        carry C r c ≡ pick (genuine C r) (answered (C .row k)) (refused Refusal.Row)
+    carry-month k e =
         let p = reached (inRound (C .size) (pos (C .month r) +ℤ c)) (natAbs (pos (C .month r) +ℤ c)) k e in
-        rw (g, p .0, p .1)
+        rw (p .0, p .1)
 
-    pub carry-outside : genuine C r ≡ true → Target.Outside ≡ targetOf (C .size) (pos (C .month r) +ℤ c) → carry C r c ≡ refused Refusal.Carry
-    carry-outside g e = rw (g, passed (inRound (C .size) (pos (C .month r) +ℤ c)) (natAbs (pos (C .month r) +ℤ c)) e)
+    pub carry-outside : Target.Outside ≡ targetOf (C .size) (pos (C .month r) +ℤ c) →
+        carry C r c ≡ pick (genuine C r) (refused Refusal.Carry) (refused Refusal.Row)
+    carry-outside e = rw (passed (inRound (C .size) (pos (C .month r) +ℤ c)) (natAbs (pos (C .month r) +ℤ c)) e)
 
 -- a walk by months so far: it stands at month k, after i counts of cs of which n were answered, and the rest of the walk from there is the
 -- whole walk from the month m

@@ -40,7 +40,7 @@ impl Random {
     fn row(&mut self) -> [u64; 8] {
         let (year, place) = self.month();
         let mut row = [0; 8];
-        assert_eq!(fast::month_row(year, place, &mut row), 0);
+        assert_eq!(fast::month_row::<fast::Division>(year, place, &mut row), 0);
         row
     }
 

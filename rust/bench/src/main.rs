@@ -10,7 +10,7 @@ mod inputs;
 mod measure;
 mod survey;
 
-use bench::fast;
+use bench::fast::{self, Division, MonthsBefore, Table};
 use inputs::Inputs;
 use measure::{measure, Line};
 
@@ -20,38 +20,72 @@ type End = ([u64; 8], [u64; 3]);
 /// A planet's count of stages, and the stages.
 type Stages = ([u64; 1], [[u64; 10]; 14]);
 
-fn rows_and_dates(inputs: &Inputs) -> [Line; 4] {
+/// The jobs that stand on the months before a year, by one way to them in Rust.
+fn rows_and_dates<B: MonthsBefore>(inputs: &Inputs, names: [&'static str; 6]) -> [Line; 6] {
     [
         measure(
-            "row of a month",
+            names[0],
             &inputs.months,
             [0; 8],
             |&(year, place), out| raw::xinghe_month_row(year, place, out),
-            |&(year, place), out| fast::month_row(year, place, out),
+            |&(year, place), out| fast::month_row::<B>(year, place, out),
         ),
         measure(
-            "date to day",
+            names[1],
             &inputs.dates,
             [0; 2],
             |&(year, place, day), out| raw::xinghe_day_of_date(year, place, day, out),
-            |&(year, place, day), out| fast::day_of_date(year, place, day, out),
+            |&(year, place, day), out| fast::day_of_date::<B>(year, place, day, out),
         ),
         measure(
-            "day to date",
+            names[2],
             &inputs.days,
             [0; 3],
             |&number, out| raw::xinghe_date_of_day(number, out),
-            |&number, out| fast::date_of_day(number, out),
+            |&number, out| fast::date_of_day::<B>(number, out),
         ),
         measure(
-            "carry",
+            names[3],
             &inputs.carries,
             [0; 8],
             |(row, count), out| raw::xinghe_carry(row, *count, out),
-            |(row, count), out| fast::carry(row, *count, out),
+            |(row, count), out| fast::carry::<B>(row, *count, out),
+        ),
+        measure(
+            names[4],
+            &inputs.walks,
+            ([0; 8], [0; 3]),
+            library_walk,
+            |(row, counts), end: &mut End| fast::walk::<B>(row, counts, &mut end.0, &mut end.1),
+        ),
+        measure(
+            names[5],
+            &inputs.years,
+            [0; 13 * 8],
+            // SAFETY: pointer and length are those of an array.
+            |&year, out| unsafe { raw::xinghe_fill_year(year, out.as_mut_ptr(), out.len()) },
+            |&year, out| fast::fill_year::<B>(year, out),
         ),
     ]
 }
+
+const BY_DIVISION: [&str; 6] = [
+    "row of a month",
+    "date to day",
+    "day to date",
+    "carry",
+    "walk of 1,000 counts",
+    "a year's list",
+];
+
+const BY_TABLE: [&str; 6] = [
+    "row of a month, in Rust too from a table",
+    "date to day, from a table",
+    "day to date, from a table",
+    "carry, from a table",
+    "walk of 1,000 counts, from a table",
+    "a year's list, from a table",
+];
 
 fn library_walk((row, counts): &([u64; 8], Vec<i64>), end: &mut End) -> u64 {
     let (out, totals) = end;
@@ -59,34 +93,14 @@ fn library_walk((row, counts): &([u64; 8], Vec<i64>), end: &mut End) -> u64 {
     unsafe { raw::xinghe_walk(row, counts.as_ptr(), counts.len(), out, totals) }
 }
 
-fn walks(inputs: &Inputs) -> Line {
+fn cuts(inputs: &Inputs) -> Line {
     measure(
-        "walk of 1,000 counts",
-        &inputs.walks,
-        ([0; 8], [0; 3]),
-        library_walk,
-        |(row, counts), end| fast::walk(row, counts, &mut end.0, &mut end.1),
+        "point of a cut",
+        &inputs.points,
+        [0; 3],
+        |&(year, cut, index), out| raw::xinghe_cut_point(year, cut, index, out),
+        |&(year, cut, index), out| fast::cut_point(year, cut, index, out),
     )
-}
-
-fn years(inputs: &Inputs) -> [Line; 2] {
-    [
-        measure(
-            "a year's list",
-            &inputs.years,
-            [0; 13 * 8],
-            // SAFETY: pointer and length are those of an array.
-            |&year, out| unsafe { raw::xinghe_fill_year(year, out.as_mut_ptr(), out.len()) },
-            |&year, out| fast::fill_year(year, out),
-        ),
-        measure(
-            "point of a cut",
-            &inputs.points,
-            [0; 3],
-            |&(year, cut, index), out| raw::xinghe_cut_point(year, cut, index, out),
-            |&(year, cut, index), out| fast::cut_point(year, cut, index, out),
-        ),
-    ]
 }
 
 fn moons(inputs: &Inputs) -> [Line; 4] {
@@ -146,9 +160,13 @@ fn main() {
     let inputs = Inputs::new();
     println!("| job | library, ns per call | Rust, ns per call | library / Rust |");
     println!("|---|---|---|---|");
-    rows_and_dates(&inputs).iter().for_each(Line::print);
-    walks(&inputs).print();
-    years(&inputs).iter().for_each(Line::print);
+    for line in rows_and_dates::<Division>(&inputs, BY_DIVISION) {
+        line.print();
+    }
+    for line in rows_and_dates::<Table>(&inputs, BY_TABLE) {
+        line.print();
+    }
+    cuts(&inputs).print();
     moons(&inputs).iter().for_each(Line::print);
     planets(&inputs).iter().for_each(Line::print);
     let survey = survey::measure();

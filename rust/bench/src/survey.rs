@@ -61,7 +61,7 @@ fn by_library() -> Sums {
 fn by_rust() -> Sums {
     survey(
         |year, out| fast::year_head(year, out),
-        |year, place, out| fast::month_row(year, place, out),
+        |year, place, out| fast::month_row::<fast::Division>(year, place, out),
         |year, place, out| fast::phases(year, place, out),
         |year, place, out| fast::nodes(year, place, out),
         |year, place, out| fast::corrections(year, place, out),

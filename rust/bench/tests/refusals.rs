@@ -1,7 +1,7 @@
 //! The benchmark's inputs are all answered; here the plain Rust refuses what
 //! the library refuses, so that neither is spared a test in the other's favour.
 
-use bench::fast;
+use bench::fast::{self, Division, MonthsBefore, Table};
 use xinghe::Row;
 
 const OTHER: u64 = 7;
@@ -31,10 +31,15 @@ fn genuine_and_forged() -> Vec<Row> {
 
 #[test]
 fn carries() {
+    carries_by::<Division>();
+    carries_by::<Table>();
+}
+
+fn carries_by<B: MonthsBefore>() {
     for row in genuine_and_forged() {
         for count in [0, 1, -1, i64::MIN, i64::MAX, 12_511_799, -12_511_799] {
             let mut out = [OTHER; 8];
-            let number = fast::carry(&row, count, &mut out);
+            let number = fast::carry::<B>(&row, count, &mut out);
             assert_eq!((number, out), numbered(xinghe::carry(&row, count)));
         }
     }
@@ -42,11 +47,16 @@ fn carries() {
 
 #[test]
 fn walks() {
+    walks_by::<Division>();
+    walks_by::<Table>();
+}
+
+fn walks_by<B: MonthsBefore>() {
     let counts = [i64::MIN, 5, -3_636_247, -1, i64::MAX, 12_511_799, 1, -2];
     for row in genuine_and_forged() {
         for counts in [&counts[..], &[]] {
             let (mut out, mut totals) = ([OTHER; 8], [OTHER; 3]);
-            let number = fast::walk(&row, counts, &mut out, &mut totals);
+            let number = fast::walk::<B>(&row, counts, &mut out, &mut totals);
             let expected = match xinghe::walk(&row, counts) {
                 Ok(end) => {
                     let below = u64::from(end.sum < 0);
@@ -62,11 +72,16 @@ fn walks() {
 
 #[test]
 fn lists() {
+    lists_by::<Division>();
+    lists_by::<Table>();
+}
+
+fn lists_by<B: MonthsBefore>() {
     for year in [0, 1, 2, 3, 1_011_600, 1_011_601, u64::MAX] {
         for length in 0..=120 {
             let mut list = vec![OTHER; length];
             let mut expected = list.clone();
-            let number = fast::fill_year(year, &mut list);
+            let number = fast::fill_year::<B>(year, &mut list);
             let answer = xinghe::fill_year(year, &mut expected);
             assert_eq!(number, answer.err().unwrap_or(0));
             assert_eq!(list, expected);
@@ -76,14 +91,19 @@ fn lists() {
 
 #[test]
 fn years_places_days_and_cuts() {
+    years_places_days_and_cuts_by::<Division>();
+    years_places_days_and_cuts_by::<Table>();
+}
+
+fn years_places_days_and_cuts_by<B: MonthsBefore>() {
     for year in [0, 1, 3, 1_011_600, 1_011_601, u64::MAX] {
         for place in [0, 11, 12, 13, u64::MAX] {
             let mut row = [OTHER; 8];
-            let number = fast::month_row(year, place, &mut row);
+            let number = fast::month_row::<B>(year, place, &mut row);
             let expected = xinghe::month_row(year, place);
             assert_eq!((number, row), numbered(expected));
             let mut day = [OTHER; 2];
-            let number = fast::day_of_date(year, place, 30, &mut day);
+            let number = fast::day_of_date::<B>(year, place, 30, &mut day);
             assert_eq!(
                 (number, day),
                 numbered(xinghe::day_of_date(year, place, 30))

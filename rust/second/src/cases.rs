@@ -7,6 +7,7 @@ use crate::ask::{self, Refusal};
 use crate::checkpoints::Checkpoints;
 use crate::fields;
 use crate::instants::Cut;
+use crate::numbers::CHAPTER_YEARS;
 use crate::planet_cases;
 use crate::walker::{Month, Row};
 
@@ -21,10 +22,15 @@ pub fn write(out: &mut impl Write) -> io::Result<()> {
     for year in spread.chain(SEAM_YEARS) {
         write_year(out, year)?;
     }
-    for line in edge_lines() {
+    for line in chapter_heads().chain(edge_lines()) {
         out.write_all(line.as_bytes())?;
     }
     Ok(())
+}
+
+/// The heads of a whole chapter and of the year that begins the next.
+fn chapter_heads() -> impl Iterator<Item = String> {
+    (1..=CHAPTER_YEARS + 1).map(head)
 }
 
 fn write_year(out: &mut impl Write, year: u64) -> io::Result<()> {

@@ -4,13 +4,16 @@
 //! The functions here are those of include/xinghe.h: same arguments, same
 //! number returned, same values written, zeros where they refuse. They are
 //! never inlined, since the library's cannot be; what they are made of is.
+//! Those of rows and dates are made for each way to the months before a year.
 
 mod anomaly;
+mod chapter;
 mod node;
 mod planets;
 mod rows;
 mod stages;
 
+pub use chapter::{Division, MonthsBefore, Table};
 pub use rows::{ROUND_DAYS, ROUND_MONTHS, ROUND_YEARS};
 
 /// Writes the answer, or zeros, and returns the number.
@@ -33,50 +36,61 @@ fn written<const LENGTH: usize>(
 
 #[inline(never)]
 pub extern "C" fn year_head(year: u64, out: &mut [u64; 6]) -> u64 {
-    written(rows::head(year), out)
+    written(rows::head::<Division>(year), out)
 }
 
 #[inline(never)]
-pub extern "C" fn month_row(year: u64, place: u64, out: &mut [u64; 8]) -> u64 {
-    let lunation = rows::lunation(year, place);
+pub extern "C" fn month_row<B: MonthsBefore>(year: u64, place: u64, out: &mut [u64; 8]) -> u64 {
+    let lunation = rows::lunation::<B>(year, place);
     let row = lunation.map(|lunation| rows::row_at(year - 1, place, lunation));
     written(row, out)
 }
 
 #[inline(never)]
-pub extern "C" fn day_of_date(year: u64, place: u64, day: u64, out: &mut [u64; 2]) -> u64 {
-    written(rows::day(year, place, day), out)
+pub extern "C" fn day_of_date<B: MonthsBefore>(
+    year: u64,
+    place: u64,
+    day: u64,
+    out: &mut [u64; 2],
+) -> u64 {
+    written(rows::day::<B>(year, place, day), out)
 }
 
 #[inline(never)]
-pub extern "C" fn date_of_day(number: u64, out: &mut [u64; 3]) -> u64 {
-    written(rows::date(number), out)
+pub extern "C" fn date_of_day<B: MonthsBefore>(number: u64, out: &mut [u64; 3]) -> u64 {
+    written(rows::date::<B>(number), out)
 }
 
 #[inline(never)]
-pub extern "C" fn carry(row: &[u64; 8], count: i64, out: &mut [u64; 8]) -> u64 {
-    written(rows::carried(row, count), out)
+pub extern "C" fn carry<B: MonthsBefore>(row: &[u64; 8], count: i64, out: &mut [u64; 8]) -> u64 {
+    written(rows::carried::<B>(row, count), out)
 }
 
 #[inline(never)]
 pub extern "C" fn phases(year: u64, place: u64, out: &mut [u64; 12]) -> u64 {
-    written(rows::lunation(year, place).map(rows::phases), out)
+    written(
+        rows::lunation::<Division>(year, place).map(rows::phases),
+        out,
+    )
 }
 
 #[inline(never)]
 pub extern "C" fn nodes(year: u64, place: u64, out: &mut [u64; 15]) -> u64 {
-    written(rows::lunation(year, place).map(node::nodes), out)
+    written(
+        rows::lunation::<Division>(year, place).map(node::nodes),
+        out,
+    )
 }
 
 #[inline(never)]
 pub extern "C" fn corrections(year: u64, place: u64, out: &mut [u64; 14]) -> u64 {
-    let lunation = rows::lunation(year, place);
+    let lunation = rows::lunation::<Division>(year, place);
     written(lunation.map(anomaly::corrections), out)
 }
 
 #[inline(never)]
 pub extern "C" fn corrections_from_rates(year: u64, place: u64, out: &mut [u64; 14]) -> u64 {
-    let lunation = rows::lunation(year, place);
+    let lunation = rows::lunation::<Division>(year, place);
     written(lunation.map(anomaly::corrections_from_rates), out)
 }
 
@@ -107,8 +121,13 @@ pub extern "C" fn stages(planet: u64, count: &mut [u64; 1], out: &mut [[u64; 10]
 /// The first row is tested, the month alone is moved, and one row is worked out
 /// at the end.
 #[inline(never)]
-pub fn walk(row: &[u64; 8], counts: &[i64], out: &mut [u64; 8], totals: &mut [u64; 3]) -> u64 {
-    if !rows::is_genuine(row) {
+pub fn walk<B: MonthsBefore>(
+    row: &[u64; 8],
+    counts: &[i64],
+    out: &mut [u64; 8],
+    totals: &mut [u64; 3],
+) -> u64 {
+    if !rows::is_genuine::<B>(row) {
         (*out, *totals) = ([0; 8], [0; 3]);
         return 4;
     }
@@ -119,12 +138,12 @@ pub fn walk(row: &[u64; 8], counts: &[i64], out: &mut [u64; 8], totals: &mut [u6
             answered += 1;
         }
     }
-    *out = rows::row_of(month);
+    *out = rows::row_of::<B>(month);
     *totals = [u64::from(month < row[0]), month.abs_diff(row[0]), answered];
     0
 }
 
 #[inline(never)]
-pub fn fill_year(year: u64, out: &mut [u64]) -> u64 {
-    rows::fill(year, out)
+pub fn fill_year<B: MonthsBefore>(year: u64, out: &mut [u64]) -> u64 {
+    rows::fill::<B>(year, out)
 }

@@ -1,11 +1,11 @@
 //! Years, months and days.
 
+use super::chapter::{self, MonthsBefore};
+
 pub const N: u64 = 208_530;
 pub const D: u64 = 16_860;
 pub const P: u64 = 6_158_017;
 
-const CHAPTER_YEARS: u64 = 562;
-const CHAPTER_MONTHS: u64 = 6_951;
 /// The least leap remainder of a year of 13 months.
 const LEAP_FROM: u64 = 355;
 const LONG_FROM: u64 = 97_883;
@@ -14,15 +14,16 @@ pub const ROUND_YEARS: u64 = 1_011_600;
 pub const ROUND_MONTHS: u64 = 12_511_800;
 pub const ROUND_DAYS: u64 = 369_481_020;
 
+/// What the months before a year leave of the chapter's months times the year.
 #[inline]
-fn months_before(past: u64) -> u64 {
-    past * CHAPTER_MONTHS / CHAPTER_YEARS
+fn leap_remainder(past: u64, before: u64) -> u64 {
+    past * chapter::MONTHS - before * chapter::YEARS
 }
 
 /// 0 where there is none.
 #[inline]
-fn leap_place(past: u64) -> u64 {
-    let remainder = past * CHAPTER_MONTHS % CHAPTER_YEARS;
+fn leap_place(past: u64, before: u64) -> u64 {
+    let remainder = leap_remainder(past, before);
     if remainder < LEAP_FROM {
         0
     } else {
@@ -38,45 +39,45 @@ struct Start {
 }
 
 #[inline]
-fn start(year: u64) -> Result<Start, u64> {
-    if !(1..=ROUND_YEARS).contains(&year) {
-        return Err(1);
-    }
-    let past = year - 1;
-    let before = months_before(past);
+fn start<B: MonthsBefore>(year: u64) -> Result<Start, u64> {
+    let past = past(year)?;
+    let before = B::months_before(past);
     Ok(Start {
         past,
         before,
-        months: months_before(year) - before,
+        months: B::months_before(year) - before,
     })
 }
 
 /// The years before a year.
 #[inline]
 pub fn past(year: u64) -> Result<u64, u64> {
-    Ok(start(year)?.past)
+    if !(1..=ROUND_YEARS).contains(&year) {
+        return Err(1);
+    }
+    Ok(year - 1)
 }
 
 #[inline]
-pub fn head(number: u64) -> Result<[u64; 6], u64> {
+pub fn head<B: MonthsBefore>(number: u64) -> Result<[u64; 6], u64> {
     let Start {
         past,
         before,
         months,
-    } = start(number)?;
+    } = start::<B>(number)?;
     Ok([
         before,
-        past * CHAPTER_MONTHS % CHAPTER_YEARS,
+        leap_remainder(past, before),
         months,
-        leap_place(past),
+        leap_place(past, before),
         past * P / D,
         past * P % D,
     ])
 }
 
 #[inline]
-pub fn lunation(number: u64, place: u64) -> Result<u64, u64> {
-    let start = start(number)?;
+pub fn lunation<B: MonthsBefore>(number: u64, place: u64) -> Result<u64, u64> {
+    let start = start::<B>(number)?;
     if place >= start.months {
         return Err(2);
     }
@@ -90,7 +91,7 @@ fn length(remainder: u64) -> u64 {
 
 #[inline]
 pub fn row_at(past: u64, place: u64, lunation: u64) -> [u64; 8] {
-    named_row(past, place, lunation, leap_place(past))
+    named_row(past, place, lunation, leap_place(past, lunation - place))
 }
 
 #[inline]
@@ -111,14 +112,20 @@ fn named_row(past: u64, place: u64, lunation: u64, leap: u64) -> [u64; 8] {
 
 /// The row of a month of the round.
 #[inline]
-pub fn row_of(lunation: u64) -> [u64; 8] {
-    let past = (CHAPTER_YEARS * lunation + CHAPTER_YEARS - 1) / CHAPTER_MONTHS;
-    row_at(past, lunation - months_before(past), lunation)
+pub fn row_of<B: MonthsBefore>(lunation: u64) -> [u64; 8] {
+    let past = past_of(lunation);
+    row_at(past, lunation - B::months_before(past), lunation)
+}
+
+/// The years before that of a month.
+#[inline]
+fn past_of(lunation: u64) -> u64 {
+    (chapter::YEARS * lunation + chapter::YEARS - 1) / chapter::MONTHS
 }
 
 #[inline]
-pub fn is_genuine(row: &[u64; 8]) -> bool {
-    row[0] < ROUND_MONTHS && *row == row_of(row[0])
+pub fn is_genuine<B: MonthsBefore>(row: &[u64; 8]) -> bool {
+    row[0] < ROUND_MONTHS && *row == row_of::<B>(row[0])
 }
 
 /// The month of the round so many months on.
@@ -129,16 +136,16 @@ pub fn moved(lunation: u64, count: i64) -> Option<u64> {
 }
 
 #[inline]
-pub fn carried(row: &[u64; 8], count: i64) -> Result<[u64; 8], u64> {
-    if !is_genuine(row) {
+pub fn carried<B: MonthsBefore>(row: &[u64; 8], count: i64) -> Result<[u64; 8], u64> {
+    if !is_genuine::<B>(row) {
         return Err(4);
     }
-    moved(row[0], count).map(row_of).ok_or(5)
+    moved(row[0], count).map(row_of::<B>).ok_or(5)
 }
 
 #[inline]
-pub fn day(year: u64, place: u64, day: u64) -> Result<[u64; 2], u64> {
-    let lunation = lunation(year, place)?;
+pub fn day<B: MonthsBefore>(year: u64, place: u64, day: u64) -> Result<[u64; 2], u64> {
+    let lunation = lunation::<B>(year, place)?;
     let index = day.wrapping_sub(1);
     if index >= length(lunation * P % N) {
         return Err(3);
@@ -148,13 +155,13 @@ pub fn day(year: u64, place: u64, day: u64) -> Result<[u64; 2], u64> {
 }
 
 #[inline]
-pub fn date(number: u64) -> Result<[u64; 3], u64> {
+pub fn date<B: MonthsBefore>(number: u64) -> Result<[u64; 3], u64> {
     if number >= ROUND_DAYS {
         return Err(7);
     }
     let lunation = (number * N + N - 1) / P;
-    let past = (CHAPTER_YEARS * lunation + CHAPTER_YEARS - 1) / CHAPTER_MONTHS;
-    let place = lunation - months_before(past);
+    let past = past_of(lunation);
+    let place = lunation - B::months_before(past);
     Ok([past + 1, place, number - lunation * P / N + 1])
 }
 
@@ -192,12 +199,12 @@ fn point<const CUT: u64>(past: u64, index: u64) -> [u64; 3] {
 }
 
 #[inline]
-pub fn fill(number: u64, out: &mut [u64]) -> u64 {
+pub fn fill<B: MonthsBefore>(number: u64, out: &mut [u64]) -> u64 {
     let Start {
         past,
         before,
         months,
-    } = match start(number) {
+    } = match start::<B>(number) {
         Ok(start) => start,
         Err(number) => return number,
     };
@@ -205,7 +212,7 @@ pub fn fill(number: u64, out: &mut [u64]) -> u64 {
     let Some(rows) = rows.get_mut(..months as usize) else {
         return 6;
     };
-    let leap = leap_place(past);
+    let leap = leap_place(past, before);
     for (place, row) in (0..).zip(rows) {
         *row = named_row(past, place, before + place, leap);
     }

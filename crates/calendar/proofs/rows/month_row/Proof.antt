@@ -27,8 +27,11 @@ enum-known-m c = search needs
 sub-leap-place : tie.Need-sub-leap-place
 sub-leap-place c = stood (c .before) .0
 
+sub-leap-place-2 : tie.Need-sub-leap-place-2
+sub-leap-place-2 c = omega (arith, stood (c .before) .1 .month)
+
 leap-place-requires : tie.Need-leap-place-requires
-leap-place-requires c κs = omega (arith, stood (c .before) .1 .year)
+leap-place-requires c κs = let s = stood (c .before) .1 in (omega (arith, s .year), omega (arith, s .month))
 
 sub-row-in : tie.Need-sub-row-in
 sub-row-in c = stood (c .before .before) .0
@@ -54,6 +57,7 @@ month-row-spec =
     lunation-at-requires
     enum-known-m
     sub-leap-place
+    sub-leap-place-2
     leap-place-requires
     sub-row-in
     row-in-requires

@@ -7,7 +7,7 @@ constants-requires : tie.Need-constants-requires
 constants-requires c κs = search needs
 
 leap-place-requires : tie.Need-leap-place-requires
-leap-place-requires c κs = (rw (c .constants .ensures) sound, search needs)
+leap-place-requires c κs = (rw (c .constants .ensures) sound, search needs, rw (c .constants .ensures) (c .before .pre .1))
 
 returns : tie.Need-returns
 returns c = rw (c .before .constants .ensures) at (c .leap-place .ensures)

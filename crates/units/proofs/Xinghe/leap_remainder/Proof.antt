@@ -7,7 +7,7 @@ constants-requires : tie.Need-constants-requires
 constants-requires c κs = search needs
 
 leap-remainder-requires : tie.Need-leap-remainder-requires
-leap-remainder-requires c κs = (rw (c .constants .ensures) sound, search needs)
+leap-remainder-requires c κs = (rw (c .constants .ensures) sound, search needs, rw (c .constants .ensures) (c .before .pre .1))
 
 returns : tie.Need-returns
 returns c = rw (c .before .constants .ensures) at (c .leap-remainder .ensures)

@@ -1,0 +1,13 @@
+-- The one test over the whole table: it is computed, entry by entry.
+use mathlib.Core.Path.{refl}
+use Rattle.reckoning.specs.Search.{listFrom}
+use Rattle.units.specs.Chapter.{chapterTable}
+use Rattle.units.proofs.chapter.chapter_table.Statement.{statement}
+use Rattle.units.proofs.chapter.chapter_table.Tie as tie
+
+returns : tie.Need-returns
+unfolding chapterTable listFrom
+returns c = refl
+
+pub chapter-table-spec : {M : Type 1} → statement M
+chapter-table-spec = tie.close (tie.spec returns)
