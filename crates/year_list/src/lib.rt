@@ -73,12 +73,12 @@ pub fn row_at(year: u64, head: HeadAnswer, place: usize) -> MonthRow
     calendar::rows::row_under(year, head.values(), place as u64)
 }
 
-// The year's rows are stored by place at the front of the lent list, and the rest of it stays. Refused, nothing is written.
-pub fn fill(rows: &mut [MonthRow], year: u64) -> FillAnswer
+// The rows of the year with that head are stored by place at the front of the lent list.
+fn fill_under(rows: &mut [MonthRow], year: u64, head: HeadAnswer) -> FillAnswer
+    requires { ⌜ head ≡ yearHead year ⌝ }
     ensures { λ r. ⌜ (r ≡ fillAnswer year (length (now (rows .entry)))) × (now (rows .exit) ≡ filled year (now (rows .entry))) ⌝ }
 {
     let have = rows.len();
-    let head = head_at(year);
     let n = to_write(head, have);
     let mut i = 0;
     while i < n {
@@ -89,14 +89,30 @@ pub fn fill(rows: &mut [MonthRow], year: u64) -> FillAnswer
     answer_for(head, have)
 }
 
-// The rows after `fill` was lent the first `have` of them: whoever calls this needs no lent list.
+// The year's rows are stored by place at the front of the lent list, and the rest of it stays. Refused, nothing is written.
+pub fn fill(rows: &mut [MonthRow], year: u64) -> FillAnswer
+    ensures { λ r. ⌜ (r ≡ fillAnswer year (length (now (rows .entry)))) × (now (rows .exit) ≡ filled year (now (rows .entry))) ⌝ }
+{
+    let head = head_at(year);
+    fill_under(rows, year, head)
+}
+
+// The rows after `fill_under` was lent the first `have` of them.
+fn front_under(rows: [MonthRow; 13], have: usize, year: u64, head: HeadAnswer) -> [MonthRow; 13]
+    requires { ⌜ (have ≤ 13) × (head ≡ yearHead year) ⌝ }
+    ensures { λ r. ⌜ r ≡ filledFront have year rows ⌝ }
+{
+    let mut list = rows;
+    fill_under(&mut list[..have], year, head);
+    list
+}
+
+// The rows after the first `have` of them were lent and filled: whoever calls this needs no lent list.
 pub fn fill_front(rows: [MonthRow; 13], have: usize, year: u64) -> [MonthRow; 13]
     requires { ⌜ have ≤ 13 ⌝ }
     ensures { λ r. ⌜ r ≡ filledFront have year rows ⌝ }
 {
-    let mut list = rows;
-    fill(&mut list[..have], year);
-    list
+    front_under(rows, have, year, head_at(year))
 }
 
 // A year by value: its head, or why it is refused, and its rows by place, with zeros past them.
@@ -108,7 +124,7 @@ pub struct YearRows {
 pub fn year_by_value(year: u64) -> YearRows
     ensures { λ r. ⌜ r ≡ yearRows year ⌝ }
 {
-    let head = calendar::heads::year_head(year);
-    let rows = fill_front([MonthRow::zero(); 13], 13, year);
+    let head = head_at(year);
+    let rows = front_under([MonthRow::zero(); 13], 13, year, head);
     YearRows { head, rows }
 }

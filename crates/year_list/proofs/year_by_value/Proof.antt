@@ -8,21 +8,21 @@ use borrow.Author.Needs.{needs}
 use Rattle.year_list.proofs.year_by_value.Statement.{statement}
 use Rattle.year_list.proofs.year_by_value.Tie as tie
 
-year-head-requires : tie.Need-year-head-requires
-year-head-requires c κs = search needs
+head-at-requires : tie.Need-head-at-requires
+head-at-requires c κs = search needs
 
 zero-requires : tie.Need-zero-requires
 zero-requires c κs = search needs
 
-fill-front-requires : tie.Need-fill-front-requires
-fill-front-requires c κs = search needs
+front-under-requires : tie.Need-front-under-requires
+front-under-requires c κs = (search needs, c .before .head-at .ensures)
 
 returns : tie.Need-returns
 returns c =
     let y = c .before .before .before .args .year in
-    let rows : c .fill-front .result ≡ filled y (replicate 13 zeroRow) =
-    c .fill-front .ensures ∙ ap (λ (r : MonthRow). filledFront 13 y (replicate 13 r)) (c .before .zero .ensures) ∙ append-nil (filled y (replicate 13 zeroRow)) in
-    cc (rows, c .before .before .year-head .ensures)
+    let rows : c .front-under .result ≡ filled y (replicate 13 zeroRow) =
+    c .front-under .ensures ∙ ap (λ (r : MonthRow). filledFront 13 y (replicate 13 r)) (c .before .zero .ensures) ∙ append-nil (filled y (replicate 13 zeroRow)) in
+    cc (rows, c .before .before .head-at .ensures)
 
 pub year-by-value-spec : {M : Type 1} → statement M
-year-by-value-spec = tie.close (tie.spec year-head-requires zero-requires fill-front-requires returns)
+year-by-value-spec = tie.close (tie.spec head-at-requires zero-requires front-under-requires returns)
