@@ -19,7 +19,7 @@ meansOf k = record { yearNum = k .year; yearDen = k .degree; monthNum = k .month
 abbrev pub ruleOf : Constants → Rule
 ruleOf k = instants (meansOf k) (k .lunations) (k .chapter)
 
--- the months before year y, and those until the next, which are the months before that
+-- the months before year y, and those before the next
 abbrev pub yearMonths : Constants → ℕ → YearMonths
 yearMonths k y = record { before = ruleOf k .before y; until = ruleOf k .before (suc y) }
 

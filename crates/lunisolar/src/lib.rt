@@ -50,11 +50,11 @@ pub enum LunationAnswer {
 }
 
 // The months of a year.
-pub fn month_count(months: YearMonths) -> u64
-    requires { ⌜ months .before ≤ months .until ⌝ }
-    ensures { λ r. ⌜ r ≡ months .until - months .before ⌝ }
+pub fn month_count(span: YearMonths) -> u64
+    requires { ⌜ span .before ≤ span .until ⌝ }
+    ensures { λ r. ⌜ r ≡ span .until - span .before ⌝ }
 {
-    months.until - months.before
+    span.until - span.before
 }
 
 // The month that a day lies in.
@@ -80,13 +80,13 @@ pub fn year_at(k: Constants, year: u64) -> YearAnswer
     YearAnswer::Past(past)
 }
 
-// The month at a place of a year with these months.
-pub fn lunation_in(months: YearMonths, place: u64) -> LunationAnswer
-    requires { ⌜ months .before ≤ months .until ⌝ }
-    ensures { λ r. ⌜ r ≡ pick (ltb place (months .until - months .before)) (LunationAnswer.Lunation (months .before + place)) (LunationAnswer.Refused Refusal.Place) ⌝ }
+// The month at a place of a year with these span.
+pub fn lunation_in(span: YearMonths, place: u64) -> LunationAnswer
+    requires { ⌜ span .before ≤ span .until ⌝ }
+    ensures { λ r. ⌜ r ≡ pick (ltb place (span .until - span .before)) (LunationAnswer.Lunation (span .before + place)) (LunationAnswer.Refused Refusal.Place) ⌝ }
 {
-    if place < month_count(months) {
-        LunationAnswer::Lunation(months.before + place)
+    if place < month_count(span) {
+        LunationAnswer::Lunation(span.before + place)
     } else {
         LunationAnswer::Refused(Refusal::Place)
     }

@@ -5,7 +5,7 @@ ghost use Prim.Native.Nat.{_≤_, _<_};
 ghost use Rattle.reckoning.specs.Rule.{leapPlace, yearOf};
 ghost use Rattle.lunisolar.specs.Calendars.{Sound, ruleOf, leapRemainder};
 
-// The leap remainder of year y (閏餘), from the months before it: what they leave of the chapter's months times y.
+// The leap remainder of year y (閏餘), from the months before it: what they, times the chapter's years, leave of the chapter's months times y.
 pub fn leap_remainder(k: Constants, y: u64, before: u64) -> u64
     requires { ⌜ Sound k × (y ≤ 1048576) × (before ≡ ruleOf k .before y) ⌝ }
     ensures { λ r. ⌜ r ≡ leapRemainder k y ⌝ }

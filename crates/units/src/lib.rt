@@ -1,4 +1,4 @@
-// The Xinghe calendar's numbers, by name, and its units: remainders over N and over D, and the day of the sixty.
+// The Xinghe calendar's numbers, by name, its printed chapter, and its units: remainders over N and over D, and the day of the sixty.
 use lunisolar::Constants;
 use lunisolar::LunationAnswer;
 use lunisolar::YearAnswer;

@@ -6,6 +6,9 @@ use xinghe::Row;
 
 const OTHER: u64 = 7;
 
+const YEARS: [u64; 6] = [0, 1, 3, 1_011_600, 1_011_601, u64::MAX];
+const PLACES: [u64; 5] = [0, 11, 12, 13, u64::MAX];
+
 /// The number and the values, zeros where it is refused.
 fn numbered<const LENGTH: usize>(answer: xinghe::Answer<[u64; LENGTH]>) -> (u64, [u64; LENGTH]) {
     match answer {
@@ -90,31 +93,39 @@ fn lists_by<B: MonthsBefore>() {
 }
 
 #[test]
-fn years_places_days_and_cuts() {
-    years_places_days_and_cuts_by::<Division>();
-    years_places_days_and_cuts_by::<Table>();
+fn years_places_and_days() {
+    years_places_and_days_by::<Division>();
+    years_places_and_days_by::<Table>();
 }
 
-fn years_places_days_and_cuts_by<B: MonthsBefore>() {
-    for year in [0, 1, 3, 1_011_600, 1_011_601, u64::MAX] {
-        for place in [0, 11, 12, 13, u64::MAX] {
+fn years_places_and_days_by<B: MonthsBefore>() {
+    for year in YEARS {
+        for place in PLACES {
             let mut row = [OTHER; 8];
             let number = fast::month_row::<B>(year, place, &mut row);
-            let expected = xinghe::month_row(year, place);
-            assert_eq!((number, row), numbered(expected));
+            assert_eq!((number, row), numbered(xinghe::month_row(year, place)));
             let mut day = [OTHER; 2];
             let number = fast::day_of_date::<B>(year, place, 30, &mut day);
-            assert_eq!(
-                (number, day),
-                numbered(xinghe::day_of_date(year, place, 30))
-            );
+            let expected = xinghe::day_of_date(year, place, 30);
+            assert_eq!((number, day), numbered(expected));
+        }
+    }
+    for day in [0, 29, 369_481_019, 369_481_020, u64::MAX] {
+        let mut date = [OTHER; 3];
+        let number = fast::date_of_day::<B>(day, &mut date);
+        assert_eq!((number, date), numbered(xinghe::date_of_day(day)));
+    }
+}
+
+#[test]
+fn cuts() {
+    for year in YEARS {
+        for index in PLACES {
             for cut in [0, 24, 25, 60, 72] {
                 let mut point = [OTHER; 3];
-                let number = fast::cut_point(year, cut, place, &mut point);
-                assert_eq!(
-                    (number, point),
-                    numbered(xinghe::cut_point(year, cut, place))
-                );
+                let number = fast::cut_point(year, cut, index, &mut point);
+                let expected = xinghe::cut_point(year, cut, index);
+                assert_eq!((number, point), numbered(expected));
             }
         }
     }

@@ -36,7 +36,7 @@ fn written<const LENGTH: usize>(
 
 #[inline(never)]
 pub extern "C" fn year_head(year: u64, out: &mut [u64; 6]) -> u64 {
-    written(rows::head::<Division>(year), out)
+    written(rows::head(year), out)
 }
 
 #[inline(never)]

@@ -1,6 +1,6 @@
 //! Years, months and days.
 
-use super::chapter::{self, MonthsBefore};
+use super::chapter::{self, Division, MonthsBefore};
 
 pub const N: u64 = 208_530;
 pub const D: u64 = 16_860;
@@ -59,12 +59,12 @@ pub fn past(year: u64) -> Result<u64, u64> {
 }
 
 #[inline]
-pub fn head<B: MonthsBefore>(number: u64) -> Result<[u64; 6], u64> {
+pub fn head(number: u64) -> Result<[u64; 6], u64> {
     let Start {
         past,
         before,
         months,
-    } = start::<B>(number)?;
+    } = start::<Division>(number)?;
     Ok([
         before,
         leap_remainder(past, before),
