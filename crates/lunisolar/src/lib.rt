@@ -80,7 +80,7 @@ pub fn year_at(k: Constants, year: u64) -> YearAnswer
     YearAnswer::Past(past)
 }
 
-// The month at a place of a year with these span.
+// The month at a place of a year, from the months before the year and until the next.
 pub fn lunation_in(span: YearMonths, place: u64) -> LunationAnswer
     requires { ⌜ span .before ≤ span .until ⌝ }
     ensures { λ r. ⌜ r ≡ pick (ltb place (span .until - span .before)) (LunationAnswer.Lunation (span .before + place)) (LunationAnswer.Refused Refusal.Place) ⌝ }
