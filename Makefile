@@ -1,10 +1,15 @@
-.PHONY: test year head head-rust bench
+.PHONY: test year head head-rust day bench
 
-# The year to print. It is anybody's text: make takes it as it was given, and a
-# recipe gets it by the environment, so that neither make nor the shell runs it.
+# The year or the date to print. It is anybody's text: make takes it as it was
+# given, and a recipe gets it by the environment, so that neither make nor the
+# shell runs it.
 YEAR ?= 293997
+PLACE ?= 0
+DAY ?= 1
 override YEAR := $(value YEAR)
-export YEAR
+override PLACE := $(value PLACE)
+override DAY := $(value DAY)
+export YEAR PLACE DAY
 
 library = target/staticlib/libxinghe.a
 sources := $(shell find crates -name '*.rt' -o -name '*.antt') crates.txt
@@ -33,6 +38,11 @@ head: $(library)
 
 head-rust: $(library)
 	@cd rust && cargo run --quiet --release --offline --package xinghe --example head -- "$$YEAR"
+
+# The day of a date and its name by the library.
+day: $(library)
+	@cc -Iinclude examples/day.c $(library) -o target/day
+	@target/day "$$YEAR" "$$PLACE" "$$DAY"
 
 $(library): $(sources)
 	@$(need_rt)

@@ -9,7 +9,8 @@
  *   0                 answered
  *   1                 the year is outside 1 to 1,011,600
  *   2                 the place is not below the year's month count
- *   3                 the day of the month is 0 or past the month's length
+ *   3                 the day of the month is 0 or past the month's length, or
+ *                     the day of the sixty is outside 1 to 60
  *   4                 a handed-in row differs in any field from the month of
  *                     the round that it names, or names none
  *   5                 a carry would end outside the round
@@ -17,17 +18,18 @@
  *   7                 the day number is above 369,481,019
  *   8                 the cut is not 24, 60 or 72, or the point not below it
  *   9                 the planet is outside 1 to 5
+ *  10                 neither list of day names is 360 bytes
  *
  * Years are written from 1. A place is a month's index in its year, from 0;
- * place 0 is the eleventh month. Days are counted from the origin, from 0, and
- * day 0 is jiazi. Months of the round (lunations) are counted from 0. A
- * remainder of a day or a degree is over 208,530; that of a solstice, of a
+ * place 0 is the eleventh month. Days are counted from the origin, from 0; day 0
+ * is jiazi, day 1 of the sixty. Months of the round (lunations) are counted from
+ * 0. A remainder of a day or a degree is over 208,530; that of a solstice, of a
  * cut's point and of the planets over 16,860. The planets are 1 Jupiter,
  * 2 Mars, 3 Saturn, 4 Venus, 5 Mercury.
  *
  * What the caller sees to: a pointer is not null and is aligned, also where the
- * length beside it is 0; it points to as many numbers as its parameter or the
- * length beside it says; and an array that is written overlaps no other
+ * length beside it is 0; it points to as many numbers or bytes as its parameter
+ * or the length beside it says; and an array that is written overlaps no other
  * argument.
  *
  * x86-64 Linux; link libxinghe.a, which `rt staticlib xinghe` makes. */
@@ -47,12 +49,14 @@ enum {
     XINGHE_YEAR = 1,
     XINGHE_PLACE = 2,
     XINGHE_DAY_OF_MONTH = 3,
+    XINGHE_DAY_OF_SIXTY = 3,
     XINGHE_ROW = 4,
     XINGHE_CARRY = 5,
     XINGHE_LIST = 6,
     XINGHE_DAY = 7,
     XINGHE_CUT = 8,
-    XINGHE_PLANET = 9
+    XINGHE_PLANET = 9,
+    XINGHE_NAMES = 10
 };
 
 /* A year's head. Refused: 1.
@@ -77,7 +81,7 @@ uint64_t xinghe_month_row(uint64_t year, uint64_t place, uint64_t out[8]);
 
 /* The day of a date; days of a month are counted from 1. Refused: 1, 2, 3.
  * out[0]  day number
- * out[1]  day of the sixty, 0 to 59 */
+ * out[1]  day of the sixty, 1 to 60; jiazi is 1 */
 uint64_t xinghe_day_of_date(uint64_t year, uint64_t place, uint64_t day,
                             uint64_t out[2]);
 
@@ -192,6 +196,20 @@ uint64_t xinghe_conjunctions(uint64_t year, uint64_t planet, uint64_t out[10]);
  * out[i][9]  what is printed: 1 morning, 2 evening, 0 neither */
 uint64_t xinghe_stages(uint64_t planet, uint64_t count[1],
                        uint64_t out[14][10]);
+
+/* Where the name of a day of the sixty is found: in theirs if that list is
+ * exactly 360 bytes, sixty names of six bytes each, in the house's otherwise.
+ * The names themselves are not looked at, and both lists stay as they are.
+ * Refused: 3, 10 (neither list is 360 bytes).
+ * out[0]  1 the name is in theirs, 2 it is in the house's
+ * out[1]  the byte of that list at which its six bytes begin, from 0 */
+uint64_t xinghe_label(uint64_t day, const uint8_t *theirs, size_t theirs_length,
+                      const uint8_t *house, size_t house_length,
+                      uint64_t out[2]);
+
+/* A list for those who have none: the sixty stem and branch names in UTF-8,
+ * from jiazi on. It is never refused and returns 0. */
+uint64_t xinghe_ganzhi_names(uint8_t out[360]);
 
 #ifdef __cplusplus
 }

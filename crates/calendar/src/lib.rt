@@ -42,7 +42,7 @@ pub enum RowAnswer {
     Refused(Refusal),
 }
 
-// A day: its number and its day of the sixty (大餘).
+// A day: its number, and its day of the sixty, from 1.
 pub struct Day {
     pub number: u64,
     pub sexagenary: u64,

@@ -1,5 +1,6 @@
 // Refusals and edges: the first and last values that each question answers, and the first that it refuses.
 use crate::lists;
+use crate::name_edges;
 use crate::planet_edges;
 use crate::questions;
 
@@ -14,6 +15,7 @@ pub fn ask_edges() {
     ask_sky();
     ask_cuts();
     planet_edges::ask_planets();
+    name_edges::ask_names();
 }
 
 fn ask_years_and_places() {

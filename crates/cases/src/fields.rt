@@ -1,6 +1,7 @@
 // Answers on a line: their values in the order in which every line of their question has them.
 use anomaly::Anomaly;
 use anomaly::Corrected;
+use calendar::Day;
 use calendar::MonthRow;
 use calendar::YearHead;
 use lines::Line;
@@ -123,6 +124,16 @@ pub fn with_full_moon_correction(line: Line, corrected: Corrected) -> Line {
         .number(corrected.day)
         .number(remainder.parts)
         .number(corrected.half)
+}
+
+// A day: its number, its day of the sixty, and its stem and branch.
+pub fn with_day(line: Line, day: Day) -> Line {
+    let house = names::ganzhi::names();
+    let name = names::label(day.sexagenary, b"", &house);
+    line.number(day.number)
+        .number(day.sexagenary)
+        .byte(b' ')
+        .text(name)
 }
 
 pub fn with_point(line: Line, point: Point) -> Line {

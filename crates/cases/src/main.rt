@@ -2,6 +2,7 @@
 mod edges;
 mod fields;
 mod lists;
+mod name_edges;
 mod planet_edges;
 mod questions;
 mod years;

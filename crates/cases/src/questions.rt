@@ -83,7 +83,7 @@ pub fn ask_cut(year: u64, cut: u64, index: u64) {
 pub fn ask_day(year: u64, place: u64, day: u64) {
     let line = asked_of_month(b"day", year, place).number(day);
     match calendar::dates::day_of_date(year, place, day) {
-        DayAnswer::Answered(found) => line.number(found.number).number(found.sexagenary).write(),
+        DayAnswer::Answered(found) => fields::with_day(line, found).write(),
         DayAnswer::Refused(refusal) => line.refuse(refusal),
     }
 }

@@ -32,6 +32,11 @@ pub through : {A : Type 0} {B : Type 0} (f : A → B) (b : Bool) (x z : A) → f
 through f true x z = refl
 through f false x z = refl
 
+-- what holds of both sides where they are chosen holds of a choice
+pub pick-cases : {A : Type 0} (P : A → Type 0) (b : Bool) (x z : A) → (T b → P x) → (¬ (T b) → P z) → P (pick b x z)
+pick-cases P true x z f g = f tt
+pick-cases P false x z f g = g (λ t. t)
+
 pub le-or-lt : (a b : ℕ) → (a ≤ b) ⊎ (b < a)
 le-or-lt a b = go (leb a b) refl
   where
@@ -157,3 +162,10 @@ unfolding listFrom
 list-at f d zero p k h = absurd (omega arith)
 list-at f d (suc n) p zero h = let e : p ≡ p + 0 = omega arith in ap f e
 list-at f d (suc n) p (suc k) h = let e : suc p + k ≡ p + suc k = omega arith in list-at f d n (suc p) k (omega arith) ∙ ap f e
+
+-- two functions that agree at the n numbers from p on have one list there
+pub list-same : {A : Type 0} (f g : ℕ → A) (n p : ℕ) → ((k : ℕ) → p ≤ k → k < p + n → f k ≡ g k) → listFrom f p n ≡ listFrom g p n
+unfolding listFrom
+list-same f g zero p same = refl
+list-same f g (suc n) p same =
+    rw (same p (omega arith) (omega arith), list-same f g n (suc p) (λ k a b. same k (omega arith) (omega arith))) refl

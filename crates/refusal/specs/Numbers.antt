@@ -1,8 +1,9 @@
--- The number of each refusal, as 01 "Numbers returned" and 02 have them. An answered job has number 0.
+-- The number of each refusal, as 01 "Numbers returned" and 02 have them: 3 is 01's for the day of a month and 02 §3's for a day of the sixty.
+-- An answered job has number 0.
 -- Assumes nothing.
 use Prim.Native.Nat.{ℕ}
 use Rattle.refusal.specs.declared.Refusal.{Refusal}
-use Rattle.refusal.specs.declared.Refusal.the-variants.{Year, Place, DayOfMonth, Row, Carry, List, Day, Cut, Planet}
+use Rattle.refusal.specs.declared.Refusal.the-variants.{Year, Place, DayOfMonth, Row, Carry, List, Day, Cut, Planet, DayOfSixty, Names}
 
 abbrev pub numberOf : Refusal → ℕ
 numberOf Year = 1
@@ -14,3 +15,5 @@ numberOf List = 6
 numberOf Day = 7
 numberOf Cut = 8
 numberOf Planet = 9
+numberOf DayOfSixty = 3
+numberOf Names = 10

@@ -21,6 +21,10 @@ pub enum Refusal {
     Cut,
     // a planet outside 1 to 5
     Planet,
+    // a day of the sixty outside 1 to 60
+    DayOfSixty,
+    // neither of two lent lists of day names is exactly 360 bytes
+    Names,
 }
 
 impl Refusal {
@@ -37,6 +41,8 @@ impl Refusal {
             Refusal::Day => 7,
             Refusal::Cut => 8,
             Refusal::Planet => 9,
+            Refusal::DayOfSixty => 3,
+            Refusal::Names => 10,
         }
     }
 }

@@ -56,20 +56,20 @@ abbrev pub table : List Case
 table =
     -- years 1 to 4
     head 1 0 0 12 0 0 0
-    ∷ row 1 0 0 11 false 0 0 0 29
+    ∷ row 1 0 0 11 false 0 1 0 29
     ∷ head 2 12 207 12 0 365 4117
     ∷ head 3 24 414 13 9 730 8234
     ∷ head 4 37 59 12 0 1095 12351
     -- the last year, and its last month, which one part less would make 29 days
     ∷ head 1011600 12511787 355 13 12 369480654 12743
-    ∷ row 1011600 12 12511799 10 true 369480990 30 97883 30
+    ∷ row 1011600 12 12511799 10 true 369480990 31 97883 30
     ∷ length 97882 29
     -- month 0 stands at the node, and its full moon exactly at P/2
     ∷ newNode 1 0 0 0 Side.AtNode true 15
     ∷ fullNode 1 0 14 159588 1 true 1
     -- Xinghe 2
     ∷ head 293997 3636238 440 13 8 107380330 2132
-    ∷ row 293997 0 3636238 11 false 107380307 47 1336 29
+    ∷ row 293997 0 3636238 11 false 107380307 48 1336 29
     ∷ newNode 293997 0 136 125572 Side.Inside false 0
     ∷ correction 293997 0 14 188982 (pos 2124) 107380306 207742
     ∷ []

@@ -44,6 +44,18 @@ pub fn fed_row(digest: Digest, row: MonthRow) -> Digest {
         .feed(row.length)
 }
 
+// The stem and branch of a day, by the lent names.
+pub fn fed_label(digest: Digest, day: u64, ganzhi: &[u8]) -> Digest {
+    let name = names::label(units::sexagenary(day), &ganzhi[0..0], ganzhi);
+    let mut fed = digest;
+    let mut i = 0;
+    while i < name.len() {
+        fed = fed.feed(name[i] as u64);
+        i += 1;
+    }
+    fed
+}
+
 fn fed_phase(digest: Digest, phase: Phase) -> Digest {
     let remainder = phase.remainder;
     digest

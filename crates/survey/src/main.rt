@@ -12,10 +12,11 @@ use years::Survey;
 const ERAS: u64 = 6;
 
 fn survey_round() -> Survey {
+    let ganzhi = names::ganzhi::names();
     let mut round = Survey::new();
     let mut i = 0;
     while i < ERAS {
-        let era = years::survey_era(i * years::ERA_YEARS);
+        let era = years::survey_era(i * years::ERA_YEARS, &ganzhi);
         era.write(Line::new().text(b"era").number(i + 1));
         round = round.add_era(era);
         i += 1;

@@ -27,13 +27,14 @@ impl Survey {
         }
     }
 
-    fn month(self, year: u64, place: u64) -> Self {
+    fn month(self, year: u64, place: u64, ganzhi: &[u8]) -> Self {
         let row = calendar::rows::month_row(year, place).values();
         let phases = ephemeris::phases(year, place).values();
         let nodes = ephemeris::nodes(year, place).values();
         let corrections = ephemeris::corrections(year, place).values();
         let before = self.digest;
-        let with_phases = fields::fed_phases(fields::fed_row(before, row), phases);
+        let with_label = fields::fed_label(fields::fed_row(before, row), row.day, ganzhi);
+        let with_phases = fields::fed_phases(with_label, phases);
         let with_nodes = fields::fed_nodes(with_phases, nodes);
         let digest = fields::fed_corrections(with_nodes, corrections);
         let counted = self.counts;
@@ -46,17 +47,17 @@ impl Survey {
         }
     }
 
-    fn months(self, year: u64, months: u64) -> Self {
+    fn months(self, year: u64, months: u64, ganzhi: &[u8]) -> Self {
         let mut survey = self;
         let mut place = 0;
         while place < months {
-            survey = survey.month(year, place);
+            survey = survey.month(year, place, ganzhi);
             place += 1;
         }
         survey
     }
 
-    fn year(self, year: u64) -> Self {
+    fn year(self, year: u64, ganzhi: &[u8]) -> Self {
         let head = calendar::heads::year_head(year).values();
         let before = self.digest;
         let digest = feed_cut(feed_cut(feed_cut(before, year, 24), year, 60), year, 72);
@@ -67,7 +68,7 @@ impl Survey {
             counts,
             digest,
             planets,
-        }.months(year, head.months)
+        }.months(year, head.months, ganzhi)
     }
 
     // An era's counts added, and its digests fed, to those of the round.
@@ -126,14 +127,14 @@ fn feed_planets(digest: Digest, year: u64) -> Digest {
     feed_planet(venus, year, 5)
 }
 
-// The era that begins after so many years.
-pub fn survey_era(past: u64) -> Survey
+// The era that begins after so many years; its months' first days are labelled by the lent names.
+pub fn survey_era(past: u64, ganzhi: &[u8]) -> Survey
     requires { ⌜ past < 4294967296 ⌝ }
 {
     let mut survey = Survey::new();
     let mut i = 0;
     while i < ERA_YEARS {
-        survey = survey.year(past + i + 1);
+        survey = survey.year(past + i + 1, ganzhi);
         i += 1;
     }
     survey

@@ -129,9 +129,12 @@ impl Xinghe {
     }
 }
 
-// The day of the sixty.
+// The days of a round of day names (六十甲子).
+pub const SIXTY: u64 = 60;
+
+// The day of the sixty, from 1.
 pub fn sexagenary(day: u64) -> u64
     ensures { λ r. ⌜ r ≡ sexagenaryOf day ⌝ }
 {
-    day % 60
+    day % SIXTY + 1
 }

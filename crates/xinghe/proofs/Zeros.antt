@@ -4,10 +4,12 @@ use mathlib.Core.Path.{_≡_, refl}
 use lib.ListN.{replicate}
 use Rattle.calendar.specs.Answers.{zeroHead, zeroRow, zeroDay, zeroDate}
 use Rattle.ephemeris.specs.Answers.{zeroPhases, zeroNodes, zeroCorrections, zeroPoint}
+use Rattle.refusal.specs.declared.Refusal.{Refusal}
+use Rattle.names.specs.declared.LocationAnswer.{LocationAnswer}
 use Rattle.planets.specs.Answers.{zeroConjunctions}
 use Rattle.planets.specs.Stages.{room, noStages}
 use Rattle.walk.specs.Walked.{zeroWalk}
-use Rattle.xinghe.specs.Fields.{headFields, rowFields, dayFields, dateFields, phasesFields, nodesFields, correctionsFields, pointFields, conjunctionsFields, stagesFields}
+use Rattle.xinghe.specs.Fields.{headFields, rowFields, dayFields, dateFields, phasesFields, nodesFields, correctionsFields, pointFields, conjunctionsFields, stagesFields, locationFields}
 use Rattle.xinghe.specs.Walks.{totalsFields}
 
 pub record Zeros : Type 0 where
@@ -23,6 +25,7 @@ pub record Zeros : Type 0 where
   pub totals : totalsFields zeroWalk ≡ replicate 3 0
   pub conjunctions : conjunctionsFields zeroConjunctions ≡ replicate 10 0
   pub stages : stagesFields noStages ≡ replicate room (replicate 10 0)
+  pub location : (e : Refusal) → locationFields (LocationAnswer.Refused e) ≡ replicate 2 0
 
 pub zeros : Zeros
 zeros =
@@ -39,4 +42,5 @@ zeros =
       totals = refl;
       conjunctions = refl;
       stages = refl;
+      location = λ e. refl;
     }

@@ -3,6 +3,8 @@
 use mathlib.Core.Bool.{Bool, cond}
 use mathlib.Core.List.{List, [], _∷_, map}
 use Prim.Native.Nat.{ℕ}
+use Rattle.names.specs.Names.{whoseNumber}
+use Rattle.names.specs.declared.LocationAnswer.{LocationAnswer}
 use Rattle.calendar.specs.declared.YearHead.{YearHead}
 use Rattle.calendar.specs.declared.MonthRow.{MonthRow}
 use Rattle.calendar.specs.declared.Day.{Day}
@@ -78,3 +80,8 @@ conjunctionsFields c =
 -- the stages, one after the other
 abbrev pub stagesFields : List Stage → List (List ℕ)
 stagesFields stages = map stageFields stages
+
+-- where a name is found: the number of the list, and the byte of it, from 0, at which the name begins; both 0 where it is refused
+abbrev pub locationFields : LocationAnswer → List ℕ
+locationFields (LocationAnswer.Answered location) = whoseNumber (location .whose) ∷ location .from ∷ []
+locationFields (LocationAnswer.Refused e) = 0 ∷ 0 ∷ []

@@ -5,11 +5,12 @@ use calendar::Day;
 use calendar::MonthRow;
 use calendar::YearHead;
 use moon::phases::Phases;
+use names::LocationAnswer;
 use node::Nodes;
 use planets::TwoConjunctions;
 use sun::Point;
 ghost use mathlib.Core.Path.{_≡_};
-ghost use Rattle.xinghe.specs.Fields.{bitOf, headFields, rowFields, dayFields, dateFields, phasesFields, nodesFields, correctionsFields, pointFields, conjunctionsFields};
+ghost use Rattle.xinghe.specs.Fields.{bitOf, headFields, rowFields, dayFields, dateFields, phasesFields, nodesFields, correctionsFields, pointFields, conjunctionsFields, locationFields};
 
 // Yes is 1 and no is 0.
 pub fn bit(yes: bool) -> u64
@@ -196,4 +197,17 @@ pub fn conjunctions_fields(conjunctions: TwoConjunctions) -> [u64; 10]
         second_over.parts,
         second_kind,
     ]
+}
+
+pub fn location_fields(answer: LocationAnswer) -> [u64; 2]
+    ensures { λ r. ⌜ r ≡ locationFields answer ⌝ }
+{
+    match answer {
+        LocationAnswer::Answered(location) => {
+            let whose = location.whose;
+            let whose = whose.number();
+            [whose, location.from as u64]
+        }
+        LocationAnswer::Refused(_) => [0, 0],
+    }
 }

@@ -10,9 +10,11 @@ ghost use Rattle.calendar.specs.Answers.{headNumber, headValues, rowNumber, row
 ghost use Rattle.year_list.specs.Filled.{fillNumber};
 ghost use Rattle.ephemeris.specs.Jobs.{phasesAt, nodesAt, correctionsAt, cutPoint};
 ghost use Rattle.ephemeris.specs.Answers.{phasesNumber, phasesValues, nodesNumber, nodesValues, correctionsNumber, correctionsValues, pointNumber, pointValues};
+ghost use Rattle.names.specs.Names.{bytesOf, labelLocation, labelNumber};
+ghost use Rattle.names.specs.Ganzhi.{ganzhi};
 ghost use Rattle.planets.specs.Jobs.{conjunctionsAt, stagesAt};
 ghost use Rattle.planets.specs.Answers.{conjunctionsNumber, conjunctionsValues, stagesNumber, stagesCount};
-ghost use Rattle.xinghe.specs.Fields.{conjunctionsFields, stagesFields, headFields, rowFields, dayFields, dateFields, phasesFields, nodesFields, correctionsFields, pointFields};
+ghost use Rattle.xinghe.specs.Fields.{conjunctionsFields, stagesFields, locationFields, headFields, rowFields, dayFields, dateFields, phasesFields, nodesFields, correctionsFields, pointFields};
 ghost use Rattle.xinghe.specs.Lent.{carryOfFields};
 ghost use Rattle.walk.specs.Walked.{walkNumber, walkValues};
 ghost use Rattle.xinghe.specs.Walks.{walkOfFields, totalsFields};
@@ -113,6 +115,25 @@ pub extern "C" fn xinghe_stages(planet: u64, count: &mut [u64; 1], out: &mut [[u
     *count = [counted.value()];
     *out = planets::table::rows_of(planet);
     counted.number()
+}
+
+// Where the name of a day of the sixty is found: in whose list, and from which byte on. A part of a list can't be handed to C.
+#[no_mangle]
+pub extern "C" fn xinghe_label(day: u64, theirs: &[u8], house: &[u8], out: &mut [u64; 2]) -> u64
+    ensures { λ r. ⌜ (r ≡ labelNumber day (bytesOf (theirs .entry)) (bytesOf (house .entry))) × (now (out .exit) ≡ locationFields (labelLocation day (bytesOf (theirs .entry)) (bytesOf (house .entry)))) ⌝ }
+{
+    let answer = names::label_location(day, theirs.len(), house.len());
+    *out = fields::location_fields(answer);
+    answer.number()
+}
+
+// The sixty stem and branch names, a list for those who have none.
+#[no_mangle]
+pub extern "C" fn xinghe_ganzhi_names(out: &mut [u8; 360]) -> u64
+    ensures { λ r. ⌜ (r ≡ 0) × (now (out .exit) ≡ ganzhi) ⌝ }
+{
+    *out = names::ganzhi::names();
+    0
 }
 
 // `row` holds the eight numbers of a month's row.

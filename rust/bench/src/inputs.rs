@@ -17,6 +17,8 @@ pub struct Inputs {
     pub points: Vec<(u64, u64, u64)>,
     pub conjunctions: Vec<(u64, u64)>,
     pub planets: Vec<u64>,
+    /// Days of the sixty, and how long their list is.
+    pub labels: Vec<(u64, usize)>,
 }
 
 struct Random {
@@ -65,6 +67,12 @@ impl Random {
         1 + self.below(5)
     }
 
+    /// Half of the lists of theirs are a byte short, so that the house's is taken.
+    fn label(&mut self) -> (u64, usize) {
+        let short = self.below(2) as usize;
+        (1 + self.below(fast::SIXTY), fast::LIST - short)
+    }
+
     /// To a month of the round.
     fn carry(&mut self) -> ([u64; 8], i64) {
         let row = self.row();
@@ -97,6 +105,7 @@ impl Inputs {
             points: some(COUNT, || random.point()),
             conjunctions: some(COUNT, || (random.year(), random.planet())),
             planets: some(COUNT, || random.planet()),
+            labels: some(COUNT, || random.label()),
         }
     }
 }

@@ -156,6 +156,33 @@ fn planets(inputs: &Inputs) -> [Line; 2] {
     ]
 }
 
+fn names(inputs: &Inputs) -> [Line; 2] {
+    let list = [0; fast::LIST];
+    [
+        measure(
+            "label",
+            &inputs.labels,
+            [0; 2],
+            |&(day, length), out| {
+                let (theirs, house) = (&list[..length], &list);
+                // SAFETY: pointers and lengths are those of a slice and an array.
+                unsafe {
+                    let (theirs, house) = (theirs.as_ptr(), house.as_ptr());
+                    raw::xinghe_label(day, theirs, length, house, fast::LIST, out)
+                }
+            },
+            |&(day, length), out| fast::label(day, &list[..length], &list, out),
+        ),
+        measure(
+            "the sixty names",
+            &[(); 256],
+            list,
+            |(), out| raw::xinghe_ganzhi_names(out),
+            |(), out| fast::ganzhi_names(out),
+        ),
+    ]
+}
+
 fn main() {
     let inputs = Inputs::new();
     println!("| job | library, ns per call | Rust, ns per call | library / Rust |");
@@ -169,6 +196,7 @@ fn main() {
     cuts(&inputs).print();
     moons(&inputs).iter().for_each(Line::print);
     planets(&inputs).iter().for_each(Line::print);
+    names(&inputs).iter().for_each(Line::print);
     let survey = survey::measure();
     survey.print();
     println!();

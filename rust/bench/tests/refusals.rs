@@ -149,3 +149,24 @@ fn planets() {
         assert_eq!((number, count, out), expected);
     }
 }
+
+#[test]
+fn labels() {
+    let names = [[0; 361], [1; 361]];
+    for day in [0, 1, 2, 60, 61, u64::MAX] {
+        for (theirs, house) in [(360, 360), (360, 0), (359, 360), (361, 360), (359, 361)] {
+            let (theirs, house) = (&names[0][..theirs], &names[1][..house]);
+            let mut out = [OTHER; 2];
+            let number = fast::label(day, theirs, house, &mut out);
+            let expected = xinghe::label(day, theirs, house).map(|name| {
+                let list = &names[usize::from(name[0])];
+                let from = name.as_ptr() as u64 - list.as_ptr() as u64;
+                [u64::from(name[0]) + 1, from]
+            });
+            assert_eq!((number, out), numbered(expected));
+        }
+    }
+    let mut list = [OTHER as u8; fast::LIST];
+    assert_eq!(fast::ganzhi_names(&mut list), 0);
+    assert_eq!(list, xinghe::ganzhi_names());
+}

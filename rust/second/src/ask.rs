@@ -2,9 +2,8 @@
 
 use crate::checkpoints::Checkpoints;
 use crate::instants::{Cut, SunPoint};
-use crate::numbers::SIXTY;
 use crate::planets::Conjunctions;
-use crate::spans::carried;
+use crate::sixty;
 use crate::stages::{self, Stage};
 use crate::walker::{Month, Row, Year};
 
@@ -13,13 +12,15 @@ use crate::walker::{Month, Row, Year};
 pub enum Refusal {
     Year = 1,
     Place = 2,
-    DayOfMonth = 3,
+    /// Of a month, or of the sixty.
+    NoSuchDay = 3,
     ForgedRow = 4,
     CarryOutside = 5,
     ListTooShort = 6,
     DayNumber = 7,
     Cut = 8,
     Planet = 9,
+    NoNames = 10,
 }
 
 pub fn year(number: u64) -> Result<Year, Refusal> {
@@ -37,11 +38,10 @@ pub fn month(number: u64, place: u64) -> Result<Month, Refusal> {
 pub fn day_number(year: u64, place: u64, day_of_month: u64) -> Result<(u64, u64), Refusal> {
     let month = month(year, place)?;
     if !(1..=month.row.length).contains(&day_of_month) {
-        return Err(Refusal::DayOfMonth);
+        return Err(Refusal::NoSuchDay);
     }
     let later = day_of_month - 1;
-    let (_, sixty) = carried(month.sixty + later, SIXTY);
-    Ok((month.row.day + later, sixty))
+    Ok((month.row.day + later, sixty::days_on(month.sixty, later)))
 }
 
 /// The month in which a day lies, and the day of that month.

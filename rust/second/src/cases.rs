@@ -7,8 +7,10 @@ use crate::ask::{self, Refusal};
 use crate::checkpoints::Checkpoints;
 use crate::fields;
 use crate::instants::Cut;
+use crate::name_cases;
 use crate::numbers::CHAPTER_YEARS;
 use crate::planet_cases;
+use crate::sixty;
 use crate::walker::{Month, Row};
 
 /// Years at the seams of the round, asked after those at even distances.
@@ -72,6 +74,7 @@ fn edge_lines() -> Vec<String> {
         cut(1_011_600, 24, 23),
     ]);
     lines.extend(planet_cases::lines());
+    lines.extend(name_cases::lines());
     lines
 }
 
@@ -182,8 +185,13 @@ fn cut(year: u64, points: u64, index: u64) -> String {
 }
 
 fn day(year: u64, place: u64, day_of_month: u64) -> String {
-    let answer = ask::day_number(year, place, day_of_month)
-        .map(|(number, sixty)| format!("{number} {sixty}"));
+    let answer = ask::day_number(year, place, day_of_month).and_then(|(number, sixty)| {
+        let name = sixty::label(sixty, &[], &sixty::GANZHI)?;
+        Ok(format!(
+            "{number} {sixty} {}",
+            String::from_utf8_lossy(name)
+        ))
+    });
     line(format!("day {year} {place} {day_of_month}"), answer)
 }
 

@@ -2,6 +2,7 @@
 
 use crate::fields;
 use crate::instants::Cut;
+use crate::sixty::{self, GANZHI};
 use crate::walker::{Month, Year};
 
 /// Added to corrections, so that none is negative.
@@ -74,6 +75,10 @@ impl Digest {
             row.remainder,
             row.length,
         ]);
+        let name = sixty::label(month.sixty, &[], &GANZHI).expect("a day of the sixty");
+        for &byte in name {
+            self.feed(u64::from(byte));
+        }
         for phase in fields::phases(month) {
             self.feed_all(&phase);
         }

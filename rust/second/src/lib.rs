@@ -6,7 +6,8 @@
 //! with their remainders ([`spans`]), an eclipse's size is counted along the
 //! degree marks, and a correction is made up of doublings. The planets are
 //! walked from conjunction to conjunction; their stages are read from the
-//! printed text ([`stage_text`]). [`Walker`] yields the round a year at a time,
+//! printed text ([`stage_text`]), and the days of the sixty are counted on one by
+//! one ([`sixty`]). [`Walker`] yields the round a year at a time,
 //! [`Checkpoints`] finds a single year, month or day quickly by walking on from
 //! a kept state.
 
@@ -17,12 +18,14 @@ pub mod checkpoints;
 pub mod digest;
 pub mod fields;
 pub mod instants;
+pub mod name_cases;
 pub mod nodes;
 pub mod numbers;
 pub mod numerals;
 pub mod planet_cases;
 pub mod planets;
 pub mod printer;
+pub mod sixty;
 pub mod spans;
 pub mod stage_text;
 pub mod stages;

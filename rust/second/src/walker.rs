@@ -5,10 +5,9 @@ use crate::instants::{Cut, NewMoon, Phase, SunPoint};
 use crate::nodes::{FullMoonNode, NewMoonNode, NodeWalk};
 use crate::numbers::{
     CHAPTER_LEAPS, CHAPTER_YEARS, ERAS, ERA_YEARS, LAST_DAY, LONG_FROM, ROUND_MONTHS, ROUND_YEARS,
-    SIXTY,
 };
 use crate::planets::{Conjunctions, Planet, PlanetWalk};
-use crate::spans::carried;
+use crate::sixty;
 
 /// The month row of the rules paper.
 #[derive(Clone, Copy, Debug, PartialEq, Eq)]
@@ -75,7 +74,7 @@ impl MoonWalk {
     const ORIGIN: Self = Self {
         lunation: 0,
         new_moon: NewMoon::ORIGIN,
-        sixty: 0,
+        sixty: sixty::JIAZI,
         phase: Phase::ORIGIN,
         node: NodeWalk::ORIGIN,
         anomaly: AnomalyWalk::ORIGIN,
@@ -91,11 +90,10 @@ impl MoonWalk {
         let new_moon = self.new_moon.next();
         let phase = self.phases()[3].next();
         assert!(phase.is_new_moon(new_moon), "the two walks part");
-        let (_, sixty) = carried(self.sixty + self.length(), SIXTY);
         Self {
             lunation: self.lunation + 1,
             new_moon,
-            sixty,
+            sixty: sixty::days_on(self.sixty, self.length()),
             phase,
             node: self.node.next(),
             anomaly: self.anomaly.next(),
@@ -288,7 +286,7 @@ impl Walker {
         assert_eq!((self.term.day, self.term.remainder), (LAST_DAY + 1, 0));
         assert_eq!((self.leap_remainder, self.era_years_past), (0, 0));
         assert_eq!(self.eras_past as u64, ERAS);
-        assert_eq!(moon.sixty, 0);
+        assert_eq!(moon.sixty, sixty::JIAZI);
     }
 }
 

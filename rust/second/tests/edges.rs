@@ -1,4 +1,5 @@
-//! The rules paper's "Cases at the edges" and its printed year 1.
+//! The rules paper's "Cases at the edges" and its printed year 1, with the day of
+//! the sixty from 1.
 
 use second::ask::{self, Refusal};
 use second::nodes::Side;
@@ -81,7 +82,7 @@ fn xinghe_two() {
     assert_eq!(first.row.lunation, 3_636_238);
     assert_eq!(
         (first.row.day, first.sixty, first.row.remainder),
-        (107_380_307, 47, 1_336)
+        (107_380_307, 48, 1_336)
     );
 }
 
@@ -108,7 +109,7 @@ fn refusals() {
     assert_eq!(ask::year(0).unwrap_err(), Refusal::Year);
     assert_eq!(ask::year(1_011_601).unwrap_err(), Refusal::Year);
     assert_eq!(month(1, 0).row.length, 29);
-    assert_eq!(ask::day_number(1, 0, 30), Err(Refusal::DayOfMonth));
+    assert_eq!(ask::day_number(1, 0, 30), Err(Refusal::NoSuchDay));
     let first = month(1, 0).row;
     let forged = Row {
         number: 12,
@@ -142,18 +143,18 @@ fn years_in_lent_lists() {
 #[test]
 fn printed_year_one() {
     let printed = [
-        (11, 0, 0, 29),
-        (12, 29, 110_647, 30),
-        (1, 59, 12_764, 29),
-        (2, 28, 123_411, 30),
-        (3, 58, 25_528, 29),
-        (4, 27, 136_175, 30),
-        (5, 57, 38_292, 29),
-        (6, 26, 148_939, 30),
-        (7, 56, 51_056, 29),
-        (8, 25, 161_703, 30),
-        (9, 55, 63_820, 29),
-        (10, 24, 174_467, 30),
+        (11, 1, 0, 29),
+        (12, 30, 110_647, 30),
+        (1, 60, 12_764, 29),
+        (2, 29, 123_411, 30),
+        (3, 59, 25_528, 29),
+        (4, 28, 136_175, 30),
+        (5, 58, 38_292, 29),
+        (6, 27, 148_939, 30),
+        (7, 57, 51_056, 29),
+        (8, 26, 161_703, 30),
+        (9, 56, 63_820, 29),
+        (10, 25, 174_467, 30),
     ];
     let months = year(1).months;
     assert!(months.iter().all(|month| !month.row.leap));

@@ -1,11 +1,11 @@
 //! The Xinghe calendar, as `rt staticlib xinghe` makes it, for Rust.
 //!
 //! Every function takes any numbers whatever. `Err` holds the number under
-//! which the library refuses: 1 the year, 2 the place, 3 the day of the month,
-//! 4 a row that is not genuine, 5 a carry out of the round, 6 a list too
-//! short, 7 the day number, 8 the cut or its point, 9 the planet.
-//! include/xinghe.h says what each value means; the arrays here are in its
-//! order.
+//! which the library refuses: 1 the year, 2 the place, 3 the day of the month or
+//! of the sixty, 4 a row that is not genuine, 5 a carry out of the round, 6 a
+//! list too short, 7 the day number, 8 the cut or its point, 9 the planet, 10
+//! two lists of names of which neither is 360 bytes. include/xinghe.h says what
+//! each value means; the arrays here are in its order.
 
 mod raw;
 
@@ -15,6 +15,10 @@ pub type Answer<T> = Result<T, u64>;
 /// A month's row: month of the round, year, place, month number, leap mark,
 /// first day, small remainder, length.
 pub type Row = [u64; 8];
+
+/// The bytes of a day's name, and of a list of sixty names.
+pub const NAME: usize = 6;
+pub const NAMES: usize = 360;
 
 /// Where a walk ends.
 #[derive(Clone, Copy, Debug, PartialEq, Eq)]
@@ -56,7 +60,8 @@ pub fn month_row(year: u64, place: u64) -> Answer<Row> {
     answer(|out| raw::xinghe_month_row(year, place, out))
 }
 
-/// Day number and day of the sixty; days of a month are counted from 1.
+/// Day number and day of the sixty, which is 1 to 60; days of a month are
+/// counted from 1.
 pub fn day_of_date(year: u64, place: u64, day: u64) -> Answer<[u64; 2]> {
     answer(|out| raw::xinghe_day_of_date(year, place, day, out))
 }
@@ -104,6 +109,34 @@ pub fn stages(planet: u64) -> Answer<Stages> {
     let mut stages = [[0; 10]; 14];
     let [count] = answer(|count| raw::xinghe_stages(planet, count, &mut stages))?;
     Ok(Stages { count, stages })
+}
+
+/// The name of a day of the sixty, in theirs if that is a list of 360 bytes,
+/// sixty names of six, else in the house's.
+///
+/// ```
+/// let [number, sixty] = xinghe::day_of_date(293_997, 0, 1).unwrap();
+/// let ganzhi = xinghe::ganzhi_names();
+/// assert_eq!((number, sixty), (107_380_307, 48));
+/// assert_eq!(xinghe::label(sixty, &[], &ganzhi), Ok("辛亥".as_bytes()));
+/// ```
+pub fn label<'a>(day: u64, theirs: &'a [u8], house: &'a [u8]) -> Answer<&'a [u8]> {
+    let [whose, from] = answer(|out| {
+        // SAFETY: as in `fill_year`; the names are only read.
+        unsafe {
+            let (theirs, their_length) = (theirs.as_ptr(), theirs.len());
+            raw::xinghe_label(day, theirs, their_length, house.as_ptr(), house.len(), out)
+        }
+    })?;
+    let list = if whose == 1 { theirs } else { house };
+    Ok(&list[from as usize..][..NAME])
+}
+
+/// The sixty stem and branch names in UTF-8: a list for those who have none.
+pub fn ganzhi_names() -> [u8; NAMES] {
+    let mut names = [0; NAMES];
+    raw::xinghe_ganzhi_names(&mut names);
+    names
 }
 
 /// Writes the rows of a year, of eight numbers each, to the front of the list.

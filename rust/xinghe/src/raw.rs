@@ -2,8 +2,8 @@
 //!
 //! An array of fixed length is a reference here, so that Rust itself sees to
 //! what the header leaves to the caller: it is not null, is aligned, has that
-//! length and overlaps no other argument. Only the two functions that take a
-//! pointer and a length beside it are unsafe.
+//! length and overlaps no other argument. Only the functions that take a pointer
+//! and a length beside it are unsafe.
 
 unsafe extern "C" {
     pub safe fn xinghe_year_head(year: u64, out: &mut [u64; 6]) -> u64;
@@ -17,6 +17,19 @@ unsafe extern "C" {
     pub safe fn xinghe_cut_point(year: u64, cut: u64, index: u64, out: &mut [u64; 3]) -> u64;
     pub safe fn xinghe_conjunctions(year: u64, planet: u64, out: &mut [u64; 10]) -> u64;
     pub safe fn xinghe_stages(planet: u64, count: &mut [u64; 1], out: &mut [[u64; 10]; 14]) -> u64;
+
+    pub safe fn xinghe_ganzhi_names(out: &mut [u8; 360]) -> u64;
+
+    /// Each list points to as many bytes as the length after it says, and is not
+    /// null.
+    pub fn xinghe_label(
+        day: u64,
+        theirs: *const u8,
+        theirs_length: usize,
+        house: *const u8,
+        house_length: usize,
+        out: &mut [u64; 2],
+    ) -> u64;
 
     /// `counts` points to `length` numbers, and is neither null nor unaligned.
     pub fn xinghe_walk(

@@ -4,10 +4,13 @@ use Rattle.survey.proofs.survey_round.Statement.{statement}
 use Rattle.survey.proofs.survey_round.Tie as tie
 
 abbrev Inv-loop : tie.InvT-loop
-Inv-loop round₀ i₀ t4 round i = i ≤ 6
+Inv-loop ganzhi round₀ i₀ t5 round i = i ≤ 6
 
 abbrev μ-loop : tie.MeasureT-loop
-μ-loop round₀ i₀ t4 round i = 6 - i
+μ-loop ganzhi round₀ i₀ t5 round i = 6 - i
+
+names-requires : tie.Need-names-requires Inv-loop μ-loop
+names-requires c κs = search needs
 
 new-requires : tie.Need-new-requires Inv-loop μ-loop
 new-requires c κs = search needs
@@ -17,6 +20,9 @@ loop-holds c = search needs
 
 mul-survey-era : tie.Need-mul-survey-era Inv-loop μ-loop
 mul-survey-era c = search needs
+
+slice-aggregate-survey-era : tie.Need-slice-aggregate-survey-era Inv-loop μ-loop
+slice-aggregate-survey-era c = search needs
 
 survey-era-requires : tie.Need-survey-era-requires Inv-loop μ-loop
 survey-era-requires c κs = search needs
@@ -60,9 +66,11 @@ survey-round-spec =
     (tie.spec
     Inv-loop
     μ-loop
+    names-requires
     new-requires
     loop-holds
     mul-survey-era
+    slice-aggregate-survey-era
     survey-era-requires
     new-requires-2
     slice-aggregate-text

@@ -8,13 +8,15 @@
 
 mod anomaly;
 mod chapter;
+mod names;
 mod node;
 mod planets;
 mod rows;
 mod stages;
 
 pub use chapter::{Division, MonthsBefore, Table};
-pub use rows::{ROUND_DAYS, ROUND_MONTHS, ROUND_YEARS};
+pub use names::LIST;
+pub use rows::{ROUND_DAYS, ROUND_MONTHS, ROUND_YEARS, SIXTY};
 
 /// Writes the answer, or zeros, and returns the number.
 #[inline]
@@ -116,6 +118,17 @@ pub extern "C" fn stages(planet: u64, count: &mut [u64; 1], out: &mut [[u64; 10]
             9
         }
     }
+}
+
+#[inline(never)]
+pub fn label(day: u64, theirs: &[u8], house: &[u8], out: &mut [u64; 2]) -> u64 {
+    written(names::location(day, theirs.len(), house.len()), out)
+}
+
+#[inline(never)]
+pub extern "C" fn ganzhi_names(out: &mut [u8; LIST]) -> u64 {
+    *out = names::GANZHI;
+    0
 }
 
 /// The first row is tested, the month alone is moved, and one row is worked out

@@ -10,6 +10,9 @@ pub const P: u64 = 6_158_017;
 const LEAP_FROM: u64 = 355;
 const LONG_FROM: u64 = 97_883;
 
+/// Days of the sixty are counted from 1.
+pub const SIXTY: u64 = 60;
+
 pub const ROUND_YEARS: u64 = 1_011_600;
 pub const ROUND_MONTHS: u64 = 12_511_800;
 pub const ROUND_DAYS: u64 = 369_481_020;
@@ -151,7 +154,7 @@ pub fn day<B: MonthsBefore>(year: u64, place: u64, day: u64) -> Result<[u64; 2],
         return Err(3);
     }
     let number = lunation * P / N + index;
-    Ok([number, number % 60])
+    Ok([number, number % SIXTY + 1])
 }
 
 #[inline]

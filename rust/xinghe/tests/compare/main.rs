@@ -1,6 +1,6 @@
 //! The library is compared with the independent second program. What is
 //! expected are that program's walked answers; nothing here works out a row, a
-//! node, a correction or a conjunction.
+//! node, a correction, a conjunction or a name.
 
 // The crate keeps its declarations to itself; `sentinels` needs them to see
 // what is written where a call is refused.
@@ -9,6 +9,7 @@ mod raw;
 
 mod carries;
 mod expected;
+mod labels;
 mod lists;
 mod planets;
 mod random;

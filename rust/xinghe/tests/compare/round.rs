@@ -1,7 +1,7 @@
 //! The whole round, every month of it as the walk yields it.
 
 use second::instants::Cut;
-use second::{Month, Walker, Year};
+use second::{sixty, Month, Walker, Year};
 
 use crate::expected;
 use crate::tally::Tally;
@@ -78,7 +78,8 @@ fn compare_days(tally: &mut Tally, month: &Month) {
     let (year, place, length) = (row.year, row.place, row.length);
     let first = [row.day, month.sixty];
     tally.same(xinghe::day_of_date(year, place, 1), Ok(first));
-    let last = [row.day + length - 1, (month.sixty + length - 1) % 60];
+    let later = length - 1;
+    let last = [row.day + later, sixty::days_on(month.sixty, later)];
     tally.same(xinghe::day_of_date(year, place, length), Ok(last));
     tally.same(xinghe::day_of_date(year, place, length + 1), Err(3));
     tally.same(xinghe::date_of_day(first[0]), Ok([year, place, 1]));

@@ -3,6 +3,7 @@
 
 use std::hint::black_box;
 
+use second::sixty;
 use xinghe::Answer;
 
 use crate::expected::{LAST_DAY, LAST_YEAR};
@@ -168,6 +169,43 @@ fn conjunctions() {
         }
     }
     tally.end(400_000);
+}
+
+/// Days about the sixty, and lists of which one, both or neither is right. The
+/// list's number is held to where the second program's part lies.
+#[test]
+fn labels() {
+    let mut tally = Tally::new("sentinels of labels");
+    let lists = [[0; 361], [1; 361]];
+    for day in (0..=61).chain([1 << 32, u64::MAX]) {
+        for (theirs, house) in [(360, 360), (360, 0), (0, 360), (359, 360), (361, 359)] {
+            let (theirs, house) = (&lists[0][..theirs], &lists[1][..house]);
+            let expected = match sixty::label(day, theirs, house) {
+                Ok(name) => {
+                    let list = &lists[usize::from(name[0])];
+                    let from = name.as_ptr() as u64 - list.as_ptr() as u64;
+                    (0, [u64::from(name[0]) + 1, from])
+                }
+                Err(refusal) => (refusal as u64, [0, 0]),
+            };
+            let mut lent = Lent::new([SENTINEL; 2]);
+            // SAFETY: pointers and lengths are those of slices.
+            let number = unsafe {
+                let (theirs, length) = (theirs.as_ptr(), theirs.len());
+                let out = &mut lent.out;
+                raw::xinghe_label(day, theirs, length, house.as_ptr(), house.len(), out)
+            };
+            tally.same((number, lent.given_back()), expected);
+        }
+    }
+    tally.end(320);
+}
+
+#[test]
+fn ganzhi_names() {
+    let mut lent = Lent::new([SENTINEL as u8; 360]);
+    assert_eq!(raw::xinghe_ganzhi_names(&mut lent.out), 0);
+    assert_eq!(lent.given_back(), sixty::GANZHI[..]);
 }
 
 #[test]

@@ -2,7 +2,7 @@
 
 use second::ask;
 use second::instants::Cut;
-use second::{Month, Year};
+use second::{sixty, Month, Year};
 
 use crate::expected::{self, LAST_DAY, LAST_YEAR};
 use crate::random::Random;
@@ -79,14 +79,16 @@ fn whole_years() {
 
 fn compare_days(tally: &mut Tally, year: u64, place: u64, month: Option<&Month>) {
     for day in (0..32).chain(EDGES) {
-        let expected = match month.map(|month| month.row) {
+        let expected = match month {
             None => Err(2),
-            Some(row) if day == 0 || day > row.length => Err(3),
-            Some(row) => Ok(row.day + day - 1),
+            Some(month) if day == 0 || day > month.row.length => Err(3),
+            Some(month) => Ok([
+                month.row.day + day - 1,
+                sixty::days_on(month.sixty, day - 1),
+            ]),
         };
-        let answered = xinghe::day_of_date(year, place, day);
-        tally.same(answered, expected.map(|number| [number, number % 60]));
-        if let Ok(number) = expected {
+        tally.same(xinghe::day_of_date(year, place, day), expected);
+        if let Ok([number, _]) = expected {
             tally.same(xinghe::date_of_day(number), Ok([year, place, day]));
         }
     }
@@ -138,7 +140,7 @@ fn dates_of_days() {
         let number = random.below(LAST_DAY + 1);
         let [year, place, day] = xinghe::date_of_day(number).expect("a day of the round");
         let back = xinghe::day_of_date(year, place, day);
-        tally.same(back, Ok([number, number % 60]));
+        tally.same(back, Ok([number, 1 + number % 60]));
     }
     tally.end(500_000);
 }

@@ -1,3 +1,4 @@
+use mathlib.Core.Path.{refl}
 use native.Mathlib.Omega.{arith}
 use Prim.Native.Nat.{suc}
 use Rattle.reckoning.proofs.Searches.{below, beyond, inside}
@@ -24,7 +25,7 @@ returns-3 : tie.Need-returns-3
 unfolding dayIn
 returns-3 c =
     let a = c .before .before .before .before .before .args in
-    rw (inside 1 (a .day) (suc (a .row .length)) (omega arith) (omega arith), c .sexagenary .ensures)
+    rw (inside 1 (a .day) (suc (a .row .length)) (omega arith) (omega arith), c .sexagenary .ensures) refl
 
 pub day-in-spec : {M : Type 1} → statement M
 day-in-spec = tie.close (tie.spec returns returns-2 add-number sexagenary-requires returns-3)

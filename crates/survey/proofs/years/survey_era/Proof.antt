@@ -4,10 +4,10 @@ use Rattle.survey.proofs.years.survey_era.Statement.{statement}
 use Rattle.survey.proofs.years.survey_era.Tie as tie
 
 abbrev Inv-loop : tie.InvT-loop
-Inv-loop past survey₀ i₀ survey i = i ≤ 168600
+Inv-loop past ganzhi survey₀ i₀ survey i = i ≤ 168600
 
 abbrev μ-loop : tie.MeasureT-loop
-μ-loop past survey₀ i₀ survey i = 168600 - i
+μ-loop past ganzhi survey₀ i₀ survey i = 168600 - i
 
 new-requires : tie.Need-new-requires Inv-loop μ-loop
 new-requires c κs = search needs

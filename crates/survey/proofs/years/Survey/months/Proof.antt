@@ -4,10 +4,10 @@ use Rattle.survey.proofs.years.Survey.months.Statement.{statement}
 use Rattle.survey.proofs.years.Survey.months.Tie as tie
 
 abbrev Inv-loop : tie.InvT-loop
-Inv-loop year months survey₀ place₀ survey place = place ≤ months
+Inv-loop year months ganzhi survey₀ place₀ survey place = place ≤ months
 
 abbrev μ-loop : tie.MeasureT-loop
-μ-loop year months survey₀ place₀ survey place = months - place
+μ-loop year months ganzhi survey₀ place₀ survey place = months - place
 
 loop-holds : tie.Need-loop-holds Inv-loop μ-loop
 loop-holds c = search needs

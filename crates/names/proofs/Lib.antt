@@ -1,0 +1,4 @@
+pub mod Chunks
+pub mod Locations
+pub mod Labels
+pub mod Stems
