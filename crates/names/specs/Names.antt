@@ -51,8 +51,8 @@ inSixty i = between 1 i (suc sixty)
 abbrev pub nameAt : Whose → ℕ → NameLocation
 nameAt whose i = record { whose = whose; from = nameBytes * (i - 1) }
 
--- where the name of day i is found, by the sizes of the two lists: in theirs if that list is exactly 360 bytes, in the house's otherwise. Refused under
--- 3 for a day outside 1 to 60, then under 10 if neither list is 360 bytes
+-- where the name of day i is found, by the sizes of the two lists: in theirs if that list is exactly 360 bytes, in the house's otherwise.
+-- Refused under 3 for a day outside 1 to 60, then under 10 if neither list is 360 bytes
 unfoldable pub locationFor : ℕ → ℕ → ℕ → LocationAnswer
 locationFor i theirSize houseSize =
     pick (inSixty i)
