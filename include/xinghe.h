@@ -60,10 +60,12 @@ enum {
 };
 
 /* A year's head. Refused: 1.
- * out[0]  months of the round before the year
- * out[1]  leap remainder, over 562
+ * out[0]  months of the round before the year: those before the month whose
+ *         days contain the day of its winter solstice
+ * out[1]  leap remainder of the chapter, over 562; it does not tell the count
  * out[2]  month count, 12 or 13
- * out[3]  place of the leap month, 0 where there is none
+ * out[3]  place of the leap month, in whose days no middle term falls; 0 where
+ *         there is none
  * out[4]  day of the winter solstice
  * out[5]  its remainder, over 16,860 */
 uint64_t xinghe_year_head(uint64_t year, uint64_t out[6]);

@@ -1,28 +1,24 @@
 -- The days of the round: each lies in exactly one month, and date to day number and day number to date undo one another.
 -- Assumes nothing.
-use mathlib.Core.Path.{_≡_, _∙_, refl, sym, ap}
+use mathlib.Core.Path.{_≡_}
 use Prim.Native.Nat.{ℕ, suc, _+_, _-_, _<_, _≤_}
 use native.Mathlib.Omega.{arith}
-use borrow.Author.Tests.{lt-ltb}
-use Rattle.reckoning.specs.Search.{between}
+use Rattle.reckoning.specs.Search.{pick, between}
 use Rattle.reckoning.specs.Means.{newMoon}
 use Rattle.reckoning.specs.Dates.{monthOf}
-use Rattle.reckoning.proofs.Searches.{chosen, inside, between-low, between-high}
-use Rattle.reckoning.proofs.Climbs.{climb-le}
-use Rattle.reckoning.proofs.Days.{month-is, month-from, month-to}
 use Rattle.refusal.specs.declared.Refusal.{Refusal}
-use Rattle.units.specs.Xinghe.{means, roundMonths, roundDays}
-use Rattle.moon.specs.NewMoons.{newMoonOf}
+use Rattle.lunisolar.specs.Dates.{dayOf, dayIn, dayFor}
+use Rattle.lunisolar.specs.declared.dates.Date.{Date}
+use Rattle.lunisolar.specs.declared.dates.DateAnswer.{DateAnswer}
+use Rattle.lunisolar.specs.declared.dates.DayAnswer.{DayAnswer}
+use Rattle.lunisolar.proofs.Days as days
+use Rattle.units.specs.Xinghe.{xinghe, means, roundMonths, roundDays}
+use Rattle.units.proofs.Sound.{sound}
 use Rattle.calendar.specs.Rows.{rowOf, monthRow}
-use Rattle.calendar.specs.Dates.{dayOf, dayIn, dayFor, dayOfDate, dateIn, dateOfDay}
-use Rattle.calendar.specs.Answers.{dayValues}
+use Rattle.calendar.specs.Dates.{dayOfDate, dateOfDay}
 use Rattle.calendar.specs.declared.MonthRow.{MonthRow}
 use Rattle.calendar.specs.declared.RowAnswer.{RowAnswer}
-use Rattle.calendar.specs.declared.Date.{Date}
-use Rattle.calendar.specs.declared.DateAnswer.{DateAnswer}
-use Rattle.calendar.specs.declared.DayAnswer.{DayAnswer}
-use Rattle.calendar.proofs.Round.{round-days, days-climb, month-in-round, length-is, row-found, in-round}
-use Rattle.calendar.proofs.Months.{month-to-place, place-to-month}
+use Rattle.calendar.proofs.Round.{row-day, row-length, row-found}
 
 -- day d is one of the days of month m of the round
 pub record Within (d m : ℕ) : Type 0 where
@@ -30,71 +26,40 @@ pub record Within (d m : ℕ) : Type 0 where
   pub from : rowOf m .day ≤ d
   pub upto : d < rowOf m .day + rowOf m .length
 
--- month m ends where the next begins
-next-day : (m : ℕ) → rowOf m .day + rowOf m .length ≡ newMoon means (suc m)
-unfolding rowOf newMoonOf
-next-day m = length-is m
+-- a month ends where the next begins
+pub row-end : (m : ℕ) → rowOf m .day + rowOf m .length ≡ newMoon means (suc m)
+row-end m = omega (arith, row-day m, row-length m, days.next-day xinghe sound m)
 
-first-day : (m : ℕ) → rowOf m .day ≡ newMoon means m
-unfolding rowOf newMoonOf
-first-day m = refl
+of-row : (d m : ℕ) → Within d m → days.Within xinghe d m
+of-row d m w =
+    record { month = w .month; from = omega (arith, row-day m, w .from); upto = omega (arith, row-day m, row-length m, w .upto) }
 
--- each day of the round lies in a month of the round, and in no other
+-- EACH DAY OF THE ROUND LIES IN A MONTH OF THE ROUND, AND IN NO OTHER
 pub in-a-month : (d : ℕ) → d < roundDays → Within d (monthOf (newMoon means) d)
 in-a-month d h =
     let m : ℕ = monthOf (newMoon means) d in
-    record {
-      month = month-in-round d h;
-      from = omega (arith, first-day m, month-from (newMoon means) days-climb d);
-      upto = omega (arith, next-day m, month-to (newMoon means) days-climb d);
-    }
+    let w = days.in-a-month xinghe sound d h in
+    record { month = w .month; from = omega (arith, row-day m, w .from); upto = omega (arith, row-day m, row-length m, w .upto) }
 
 pub in-no-other : (d m : ℕ) → Within d m → monthOf (newMoon means) d ≡ m
-in-no-other d m w =
-    month-is (newMoon means) days-climb d m (omega (arith, first-day m, w .from)) (omega (arith, next-day m, w .upto))
+in-no-other d m w = days.in-no-other xinghe sound d m (of-row d m w)
 
 -- and the months' days are the round's
 pub in-the-round : (d m : ℕ) → Within d m → d < roundDays
-in-the-round d m w = omega (arith, next-day m, w .upto, round-days, climb-le (newMoon means) days-climb (suc m) roundMonths (w .month))
+in-the-round d m w = days.in-the-round xinghe sound d m (of-row d m w)
 
--- the date of day d of month m
-date-within : (d m : ℕ) → Within d m → dateOfDay d ≡ DateAnswer.Answered (dateIn (rowOf m) d)
-unfolding dateOfDay
-date-within d m w = rw (lt-ltb d roundDays (in-the-round d m w), in-no-other d m w)
+-- THE DAYS OF A DATE'S MONTH ARE ITS ROW'S: from the row's day on, as many as its length, and refused under 3 else
+pub days-of-row : (n p i : ℕ) (row : MonthRow) → RowAnswer.Answered row ≡ monthRow n p →
+    dayOfDate n p i ≡ pick (between 1 i (suc (row .length))) (DayAnswer.Answered (dayOf (row .day + (i - 1)))) (DayAnswer.Refused Refusal.DayOfMonth)
+unfolding dayFor dayIn
+days-of-row n p i row e =
+    let f = row-found n p row e in
+    rw (f .is-row, row-day (f .month), row-length (f .month), ← f .at)
 
 -- DAY NUMBER TO DATE AND BACK: every day of the round has a date, whose day it is
 pub day-date-day : (d : ℕ) → d < roundDays → (x : Date) × (dateOfDay d ≡ DateAnswer.Answered x) × (dayOfDate (x .year) (x .place) (x .day) ≡ DayAnswer.Answered (dayOf d))
-unfolding dayFor dayIn
-day-date-day d h =
-    let m : ℕ = monthOf (newMoon means) d in
-    let w = in-a-month d h in
-    let row : MonthRow = rowOf m in
-    let e : row .day + (d - row .day + 1 - 1) ≡ d = omega (arith, w .from) in (
-      dateIn row d,
-      date-within d m w,
-      rw (month-to-place m (w .month), inside 1 (d - row .day + 1) (suc (row .length)) (omega arith) (omega (arith, w .from, w .upto)), e),
-    )
+day-date-day = days.day-date-day xinghe sound
 
 -- DATE TO DAY NUMBER AND BACK: every date that has a day is that day's date
 pub date-day-date : (n p i d : ℕ) → dayOfDate n p i ≡ DayAnswer.Answered (dayOf d) → dateOfDay d ≡ DateAnswer.Answered (record { year = n; place = p; day = i })
-unfolding dayFor dayIn
-date-day-date n p i d e = go (monthRow n p) refl e
-  where
-    go : (a : RowAnswer) → monthRow n p ≡ a → dayFor a i ≡ DayAnswer.Answered (dayOf d) → dateOfDay d ≡ DateAnswer.Answered (record { year = n; place = p; day = i })
-    go (RowAnswer.Answered row) q e =
-        let t : ℕ = suc (row .length) in
-        let r = chosen (between 1 i t) (DayAnswer.Answered (dayOf (row .day + (i - 1)))) (DayAnswer.Refused Refusal.DayOfMonth) (DayAnswer.Answered (dayOf d)) (sym e)
-        (λ z. let bad : _≡_ {A = ℕ} 0 1 = cc in omega arith) in
-        let f = row-found n p row (sym q) in
-        let at = place-to-month n p row q in
-        let same : d ≡ row .day + (i - 1) = ap (λ (x : DayAnswer). dayValues x .number) (r .1) in
-        let lo = between-low 1 i t (r .0) in
-        let hi = between-high 1 i t (r .0) in
-        let w : Within d (f .month) = record {
-          month = in-round (n - 1) p (f .month) (f .stands);
-          from = rw (← f .is-row) (omega arith);
-          upto = rw (← f .is-row) (omega arith);
-        } in
-        let day : d - row .day + 1 ≡ i = omega arith in
-        date-within d (f .month) w ∙ rw (← f .is-row, at .0, at .1, day)
-    go (RowAnswer.Refused x) q e = let bad : _≡_ {A = ℕ} 0 1 = cc in absurd (omega arith)
+date-day-date = days.date-day-date xinghe sound

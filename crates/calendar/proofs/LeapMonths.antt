@@ -1,59 +1,96 @@
--- The leap months of the Xinghe (01, "Years and months"): from the middle terms, and what follows for the leap remainder.
+-- The leap months of the Xinghe, by the days of its middle terms (02 §4), and what its chapter gives of them.
 -- Assumes nothing.
-use mathlib.Core.Path.{_≡_, refl, sym, _∙_}
+use mathlib.Core.Path.{_≡_, refl}
 use mathlib.Core.Logic.{_⊎_, ⊎-elim, _↔_}
-use mathlib.Core.Bool.{Bool}
-use Prim.Native.Nat.{ℕ, suc, _+_, _-_, _*_, _/_, _≤_, _<_}
+use Prim.Native.Nat.{ℕ, suc, _+_, _-_, _*_, _≤_, _<_}
 use native.Mathlib.Omega.{arith}
-use native.Mathlib.Nat.{div-add-mod'}
-use lib.Dec.{T, leb, le→leb, leb→le}
-use borrow.Author.Tests.{le-leb, lt-leb}
-use Rattle.reckoning.specs.Search.{pick, between, firstFrom}
-use Rattle.reckoning.specs.Instants.{instants, instantIn}
-use Rattle.reckoning.specs.Rule.{monthCount, isLeap, leapPlace}
-use Rattle.reckoning.proofs.Searches.{le-or-lt, first-is, between-low, between-high}
-use Rattle.reckoning.proofs.Leaps.{one-term, leap-holds-none, Common, Long, common, long, two-kinds}
-use Rattle.reckoning.proofs.Chapters.{common-year, long-year, leap-place}
-use Rattle.lunisolar.specs.Calendars.{leapRemainder}
-use Rattle.lunisolar.proofs.Laws.{before-is, rest-lt}
+use lib.Dec.{T, leb}
+use Rattle.reckoning.specs.Search.{pick, between, any}
+use Rattle.reckoning.specs.Means.{newMoon, termDay}
+use Rattle.reckoning.specs.Days.{byDays, termIn}
+use Rattle.reckoning.specs.Rule.{isLeap}
+use Rattle.reckoning.proofs.Searches.{between-low, between-high}
+use Rattle.reckoning.proofs.Leaps as leaps
+use Rattle.reckoning.proofs.Leaps.{one-term, leap-holds-none, Common, Long, two-kinds}
+use Rattle.reckoning.proofs.Chapters.{chapter-division}
+use Rattle.reckoning.proofs.Days.{day-laws, term-after}
 use Rattle.sun.specs.Solstices.{solsticeOf}
-use Rattle.units.specs.Xinghe.{N, D, P, xinghe, means, rule, chapterMonths, chapterYears, chapterLeaps}
-use Rattle.units.proofs.Sound.{sound, laws}
+use Rattle.sun.specs.Points.{pointOf}
+use Rattle.moon.specs.NewMoons.{newMoonOf}
+use Rattle.units.specs.Xinghe.{means, rule, chapterMonths, chapterYears}
+use Rattle.units.specs.Chapter.{byChapter}
+use Rattle.units.proofs.Sound.{sound, laws, chapter}
+use Rattle.units.proofs.Table.{by-chapter-or-more}
 use Rattle.calendar.specs.Heads.{headOf, yearHead}
+use Rattle.calendar.specs.Rows.{rowOf}
 use Rattle.calendar.specs.declared.YearHead.{YearHead}
 use Rattle.calendar.specs.declared.HeadAnswer.{HeadAnswer}
-use Rattle.calendar.proofs.Round.{head-found}
+use Rattle.calendar.proofs.Round.{head-found, head-leap, row-day}
+use Rattle.calendar.proofs.Days.{row-end}
 
--- A HEAD'S MONTHS BEFORE AND LEAP REMAINDER ARE THE DIVISION'S TWO NUMBERS, as a reader checks them with the printed chapter
-pub head-division : (n : ℕ) (head : YearHead) → HeadAnswer.Answered head ≡ yearHead n →
-    (head .before * chapterYears + head .remainder ≡ (n - 1) * chapterMonths) × (head .remainder < chapterYears)
-unfolding headOf
-head-division n head e =
-    let y : ℕ = n - 1 in
-    let h = head-found n head e .is-head in (
-      rw (h, before-is xinghe sound y) (div-add-mod' (y * chapterMonths) chapterYears),
-      rw h (rest-lt xinghe sound y),
-    )
+-- the solstice's day is that of the year's first middle term
+solstice-day : (y : ℕ) → solsticeOf y .day ≡ termDay means (12 * y)
+unfolding solsticeOf termDay
+solstice-day y = omega arith
 
--- A YEAR BEGINS WITH THE MONTH THAT HOLDS ITS SOLSTICE, which is its first middle term, and with no other
-pub solstice-month : (n : ℕ) (head : YearHead) → HeadAnswer.Answered head ≡ yearHead n → (m : ℕ) → T (rule .holds m (12 * (n - 1))) ↔ (m ≡ head .before)
-unfolding headOf
-solstice-month n head e m =
-    let y : ℕ = n - 1 in
-    let b : head .before ≡ rule .before y = rw (head-found n head e .is-head) in
-    (λ t. laws .only m (12 * y) t ∙ sym (laws .opens y) ∙ sym b, λ q. rw (q, b, laws .opens y) (laws .held (12 * y)))
+-- THE MIDDLE TERMS ARE THE EVEN POINTS OF THE YEAR CUT IN 24, by the day
+pub middle-terms : (y k : ℕ) → termDay means (12 * y + k) ≡ pointOf y 24 (2 * k) .day
+unfolding pointOf termDay
+middle-terms y k = omega arith
 
--- in the head's own figures: the solstice, over D, lies no earlier than that month's new moon, over N, and earlier than the next
-pub solstice-within : (n : ℕ) (head : YearHead) → HeadAnswer.Answered head ≡ yearHead n →
-    (let s = head .solstice .day * D + head .solstice .remainder .parts in (head .before * P * D ≤ s * N) × (s * N < suc (head .before) * P * D))
-unfolding headOf solsticeOf instants instantIn
-solstice-within n head e =
-    let y : ℕ = n - 1 in
-    let b : ℕ = rule .before y in
-    let t : T (between (b * P * (12 * D)) (12 * y * P * N) (suc b * P * (12 * D))) = rw (laws .opens y) (laws .held (12 * y)) in
-    let lo = between-low (b * P * (12 * D)) (12 * y * P * N) (suc b * P * (12 * D)) t in
-    let hi = between-high (b * P * (12 * D)) (12 * y * P * N) (suc b * P * (12 * D)) t in
-    rw (head-found n head e .is-head) (omega (arith, lo), omega (arith, hi))
+module _ (n : ℕ) (head : YearHead) (e : HeadAnswer.Answered head ≡ yearHead n) where
+  abbrev y : ℕ
+  y = n - 1
+
+  is-before : head .before ≡ rule .before y
+  unfolding headOf
+  is-before = rw (head-found n head e .is-head)
+
+  is-solstice : head .solstice .day ≡ termDay means (12 * y)
+  unfolding headOf
+  is-solstice = rw (head-found n head e .is-head) (solstice-day y)
+
+  -- A HEAD BY THE PRINTED CHAPTER, as a reader checks it: the division's count and leap remainder, and the months before the year, one more
+  -- than that count exactly where the month after it begins on the solstice's day
+  pub head-chapter : (let t = byChapter y in
+      (t * chapterYears + head .remainder ≡ y * chapterMonths) × (head .remainder < chapterYears)
+      × (head .before ≡ pick (leb (rowOf (suc t) .day) (head .solstice .day)) (suc t) t))
+  unfolding headOf
+  head-chapter =
+      let d = chapter-division chapterMonths chapterYears (chapter .pos) y in
+      let h = head-found n head e .is-head in
+      (rw h (d .0), rw h (d .1), rw (is-before, is-solstice, row-day (suc (byChapter y))) (by-chapter-or-more y))
+
+  -- A YEAR BEGINS WITH THE MONTH THAT HOLDS ITS SOLSTICE, which is its first middle term, and with no other
+  pub solstice-month : (m : ℕ) → T (rule .holds m (12 * y)) ↔ (m ≡ head .before)
+  solstice-month m = rw is-before (leaps.solstice-month rule laws m y)
+
+  -- in the head's and the row's own figures: the solstice's day is one of that month's days
+  pub solstice-within : (rowOf (head .before) .day ≤ head .solstice .day) × (head .solstice .day < rowOf (head .before) .day + rowOf (head .before) .length)
+  unfolding byDays termIn
+  solstice-within =
+      let b : ℕ = rule .before y in
+      let t = leaps.solstice-month rule laws b y .1 refl in
+      let lo = between-low (newMoon means b) (termDay means (12 * y)) (newMoon means (suc b)) t in
+      let hi = between-high (newMoon means b) (termDay means (12 * y)) (newMoon means (suc b)) t in
+      rw (is-before, is-solstice) (omega (arith, row-day b, lo), omega (arith, row-end b, hi))
+
+  -- THE TERM AFTER THE LEAP MONTH FALLS ON THE FIRST OR SECOND DAY OF THE NEXT MONTH, as the treatise looks for it
+  pub term-after-leap : 0 < head .leap →
+      (let m = head .before + head .leap in let t = termDay means (12 * y + head .leap) in (rowOf (suc m) .day ≤ t) × (t ≤ rowOf (suc m) .day + 1))
+  term-after-leap some =
+      let l = head-leap n head e in
+      let L = day-laws means (sound .moon) (sound .sun) in
+      rw (row-day (suc (head .before + head .leap)), is-before, l)
+      (⊎-elim
+      (λ (c : Common rule L y). absurd (omega (arith, some, l, c .place)))
+      (λ (c : Long rule L y). term-after means (sound .moon) (sound .sun) y _ (c .leap))
+      (two-kinds rule L y))
+
+-- but not the converse: the term of year 1's second month falls on that month's second day, and the month before it is no leap month
+pub not-the-converse : T (rule .holds 1 1) × (termDay means 1 ≡ rowOf 1 .day + 1) × ¬ (T (isLeap rule 0 0))
+unfolding byDays termIn newMoon termDay between isLeap any rowOf newMoonOf
+not-the-converse = (tt, refl, λ t. t)
 
 -- each month holds at most one middle term
 pub one-middle-term : (m i j : ℕ) → T (rule .holds m i) → T (rule .holds m j) → i ≡ j
@@ -66,35 +103,3 @@ twelve-or-thirteen = two-kinds rule laws
 -- and that one, the leap month, holds no middle term of any year
 pub no-middle-term : (y m j : ℕ) → rule .before y ≤ m → m < rule .before (suc y) → T (isLeap rule y m) → ¬ (T (rule .holds m j))
 no-middle-term = leap-holds-none rule laws
-
-module _ (y : ℕ) where
-  abbrev r : ℕ
-  r = leapRemainder xinghe y
-
-  short : r < 355 → Common rule laws y
-  short h = common rule laws y (common-year means chapterMonths chapterYears (sound .rule) chapterLeaps refl y (omega arith))
-
-  leaping : 355 ≤ r → Long rule laws y
-  leaping h = long rule laws y (long-year means chapterMonths chapterYears (sound .rule) chapterLeaps refl y (omega arith))
-
-  -- it has 13 exactly where r is 355 or more
-  pub thirteen-from-355 : (monthCount rule y ≡ 13) ↔ (355 ≤ r)
-  thirteen-from-355 =
-      (λ e. ⊎-elim (λ h. h) (λ (h : r < 355). absurd (omega (arith, short h .count))) (le-or-lt 355 r), λ h. leaping h .count)
-
-  -- the leap place is then the least k with 12·r + 207·k at least 6,744; otherwise it is 0
-  pub leap-place-is : leapPlace rule y ≡ pick (leb 355 r) (firstFrom (λ k. leb 6744 (12 * r + 207 * k)) 0 13) 0
-  leap-place-is =
-      let f : ℕ → Bool = λ k. leb 6744 (12 * r + 207 * k) in
-      let l : ℕ = (6950 - 12 * r) / 207 in
-      ⊎-elim
-      (λ (h : 355 ≤ r).
-      let b : r < 562 = omega arith in
-      rw (
-        le-leb 355 r h,
-        leap-place means chapterMonths chapterYears (sound .rule) chapterLeaps refl y l (omega arith) (omega arith) (omega arith),
-        first-is f 13 0 l (omega arith) (omega arith) (le→leb 6744 (12 * r + 207 * l) (omega arith))
-            (λ q a b t. omega (arith, leb→le 6744 (12 * r + 207 * q) t)),
-      ))
-      (λ (h : r < 355). rw (lt-leb 355 r h) (short h .place))
-      (le-or-lt 355 r)

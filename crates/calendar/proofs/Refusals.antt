@@ -11,17 +11,20 @@ use Rattle.reckoning.specs.Dates.{monthOf}
 use Rattle.reckoning.proofs.Searches.{through}
 use Rattle.refusal.specs.declared.Refusal.{Refusal}
 use Rattle.lunisolar.specs.Calendars.{lunationFor, lunationAt}
+use Rattle.lunisolar.specs.Dates as dates
+use Rattle.lunisolar.specs.Dates.{dayOf, monthDays, dayIn, dayFor, dateIn}
+use Rattle.lunisolar.specs.Answers.{dayNumber, dayValues, zeroDay, dateNumber, dateValues, zeroDate}
 use Rattle.lunisolar.specs.declared.LunationAnswer.{LunationAnswer}
+use Rattle.lunisolar.specs.declared.dates.DayAnswer.{DayAnswer}
+use Rattle.lunisolar.specs.declared.dates.DateAnswer.{DateAnswer}
 use Rattle.units.specs.Xinghe.{xinghe, means, rule, roundDays}
 use Rattle.units.proofs.Years.{isYear, of-year}
 use Rattle.calendar.specs.Heads.{headFor, yearHead}
-use Rattle.calendar.specs.Rows.{rowOf, rowFor, monthRow}
-use Rattle.calendar.specs.Dates.{dayOf, dayIn, dayFor, dayOfDate, dateIn, dateOfDay}
-use Rattle.calendar.specs.Answers.{headNumber, headValues, zeroHead, rowNumber, rowValues, zeroRow, dayNumber, dayValues, zeroDay, dateNumber, dateValues, zeroDate}
+use Rattle.calendar.specs.Rows.{rowFor, monthRow}
+use Rattle.calendar.specs.Dates.{dayOfDate, dateOfDay}
+use Rattle.calendar.specs.Answers.{headNumber, headValues, zeroHead, rowNumber, rowValues, zeroRow}
 use Rattle.calendar.specs.declared.HeadAnswer.{HeadAnswer}
 use Rattle.calendar.specs.declared.RowAnswer.{RowAnswer}
-use Rattle.calendar.specs.declared.DayAnswer.{DayAnswer}
-use Rattle.calendar.specs.declared.DateAnswer.{DateAnswer}
 
 -- the place is one of the year's
 abbrev pub isPlace : ℕ → ℕ → Bool
@@ -29,7 +32,7 @@ isPlace n p = ltb p (monthCount rule (n - 1))
 
 -- the day is one of the month's
 abbrev pub isDay : ℕ → ℕ → ℕ → Bool
-isDay n p i = between 1 i (suc (rowOf (rule .before (n - 1) + p) .length))
+isDay n p i = between 1 i (suc (monthDays xinghe (rule .before (n - 1) + p)))
 
 -- what is made of a year that is sought, and of a place in it
 module _ {B : Type 0} (f : LunationAnswer → B) where
@@ -50,15 +53,15 @@ unfolding rowFor
 row-numbers n p = of-place (λ a. rowNumber (rowFor a)) n p
 
 pub day-numbers : (n p i : ℕ) → dayNumber (dayOfDate n p i) ≡ pick (isYear n) (pick (isPlace n p) (pick (isDay n p i) 0 3) 2) 1
-unfolding rowFor dayFor dayIn
+unfolding dayFor dayIn
 day-numbers n p i =
-    of-place (λ a. dayNumber (dayFor (rowFor a) i)) n p
+    of-place (λ a. dayNumber (dayFor xinghe a i)) n p
     ∙ ap (λ (x : ℕ). pick (isYear n) (pick (isPlace n p) x 2) 1)
-    (through dayNumber (isDay n p i) (DayAnswer.Answered (dayOf (rowOf (rule .before (n - 1) + p) .day + (i - 1)))) (DayAnswer.Refused Refusal.DayOfMonth))
+    (through dayNumber (isDay n p i) (DayAnswer.Answered (dayOf (newMoon means (rule .before (n - 1) + p) + (i - 1)))) (DayAnswer.Refused Refusal.DayOfMonth))
 
 pub date-numbers : (d : ℕ) → dateNumber (dateOfDay d) ≡ pick (ltb d roundDays) 0 7
-unfolding dateOfDay
-date-numbers d = through dateNumber (ltb d roundDays) (DateAnswer.Answered (dateIn (rowOf (monthOf (newMoon means) d)) d)) (DateAnswer.Refused Refusal.Day)
+unfolding dates.dateOfDay
+date-numbers d = through dateNumber (ltb d roundDays) (DateAnswer.Answered (dateIn xinghe (monthOf (newMoon means) d) d)) (DateAnswer.Refused Refusal.Day)
 
 -- where the number is not 0, the values are all zero
 pub head-zero : (a : HeadAnswer) → ¬ (headNumber a ≡ 0) → headValues a ≡ zeroHead

@@ -7,10 +7,6 @@ use Rattle.calendar.specs.declared.YearHead.{YearHead}
 use Rattle.calendar.specs.declared.HeadAnswer.{HeadAnswer}
 use Rattle.calendar.specs.declared.MonthRow.{MonthRow}
 use Rattle.calendar.specs.declared.RowAnswer.{RowAnswer}
-use Rattle.calendar.specs.declared.Day.{Day}
-use Rattle.calendar.specs.declared.DayAnswer.{DayAnswer}
-use Rattle.calendar.specs.declared.Date.{Date}
-use Rattle.calendar.specs.declared.DateAnswer.{DateAnswer}
 
 abbrev pub headNumber : HeadAnswer → ℕ
 headNumber (HeadAnswer.Answered head) = 0
@@ -33,25 +29,3 @@ zeroRow = record { lunation = 0; year = 0; place = 0; number = 0; leap = false; 
 abbrev pub rowValues : RowAnswer → MonthRow
 rowValues (RowAnswer.Answered row) = row
 rowValues (RowAnswer.Refused e) = zeroRow
-
-abbrev pub dayNumber : DayAnswer → ℕ
-dayNumber (DayAnswer.Answered day) = 0
-dayNumber (DayAnswer.Refused e) = numberOf e
-
-abbrev pub zeroDay : Day
-zeroDay = record { number = 0; sexagenary = 0 }
-
-abbrev pub dayValues : DayAnswer → Day
-dayValues (DayAnswer.Answered day) = day
-dayValues (DayAnswer.Refused e) = zeroDay
-
-abbrev pub dateNumber : DateAnswer → ℕ
-dateNumber (DateAnswer.Answered date) = 0
-dateNumber (DateAnswer.Refused e) = numberOf e
-
-abbrev pub zeroDate : Date
-zeroDate = record { year = 0; place = 0; day = 0 }
-
-abbrev pub dateValues : DateAnswer → Date
-dateValues (DateAnswer.Answered date) = date
-dateValues (DateAnswer.Refused e) = zeroDate

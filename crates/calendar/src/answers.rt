@@ -1,8 +1,4 @@
 // Each answer's number, 0 where it is answered, and its values, all zero where it is refused.
-use crate::Date;
-use crate::DateAnswer;
-use crate::Day;
-use crate::DayAnswer;
 use crate::HeadAnswer;
 use crate::MonthRow;
 use crate::RowAnswer;
@@ -11,7 +7,7 @@ use sun::Solstice;
 use units::remainder::DayRemainder;
 use units::remainder::DegreeRemainder;
 ghost use mathlib.Core.Path.{_≡_};
-ghost use Rattle.calendar.specs.Answers.{headNumber, headValues, zeroHead, rowNumber, rowValues, zeroRow, dayNumber, dayValues, zeroDay, dateNumber, dateValues, zeroDate};
+ghost use Rattle.calendar.specs.Answers.{headNumber, headValues, zeroHead, rowNumber, rowValues, zeroRow};
 
 impl HeadAnswer {
     pub fn number(self) -> u64
@@ -53,46 +49,6 @@ impl RowAnswer {
     }
 }
 
-impl DayAnswer {
-    pub fn number(self) -> u64
-        ensures { λ r. ⌜ r ≡ dayNumber self ⌝ }
-    {
-        match self {
-            DayAnswer::Answered(_) => 0,
-            DayAnswer::Refused(e) => e.number(),
-        }
-    }
-
-    pub fn values(self) -> Day
-        ensures { λ r. ⌜ r ≡ dayValues self ⌝ }
-    {
-        match self {
-            DayAnswer::Answered(day) => day,
-            DayAnswer::Refused(_) => Day::zero(),
-        }
-    }
-}
-
-impl DateAnswer {
-    pub fn number(self) -> u64
-        ensures { λ r. ⌜ r ≡ dateNumber self ⌝ }
-    {
-        match self {
-            DateAnswer::Answered(_) => 0,
-            DateAnswer::Refused(e) => e.number(),
-        }
-    }
-
-    pub fn values(self) -> Date
-        ensures { λ r. ⌜ r ≡ dateValues self ⌝ }
-    {
-        match self {
-            DateAnswer::Answered(date) => date,
-            DateAnswer::Refused(_) => Date::zero(),
-        }
-    }
-}
-
 impl YearHead {
     pub fn zero() -> YearHead
         ensures { λ r. ⌜ r ≡ zeroHead ⌝ }
@@ -123,29 +79,6 @@ impl MonthRow {
             day: 0,
             remainder: DayRemainder { parts: 0 },
             length: 0,
-        }
-    }
-}
-
-impl Day {
-    pub fn zero() -> Day
-        ensures { λ r. ⌜ r ≡ zeroDay ⌝ }
-    {
-        Day {
-            number: 0,
-            sexagenary: 0,
-        }
-    }
-}
-
-impl Date {
-    pub fn zero() -> Date
-        ensures { λ r. ⌜ r ≡ zeroDate ⌝ }
-    {
-        Date {
-            year: 0,
-            place: 0,
-            day: 0,
         }
     }
 }

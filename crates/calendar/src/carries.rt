@@ -52,7 +52,7 @@ impl MonthRow {
         let m = self.lunation;
         let y = Xinghe::year_of(m);
         let z = Xinghe::year_of(to);
-        let both = units::chapter::months_before(y, z);
+        let both = units::chapter::months_before_both(y, z);
         if same_row(self, crate::rows::row_from(y, both.first, m)) {
             RowAnswer::Answered(crate::rows::row_from(z, both.second, to))
         } else {

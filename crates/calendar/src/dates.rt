@@ -1,40 +1,18 @@
 // Dates and day numbers.
-use crate::Date;
-use crate::DateAnswer;
-use crate::Day;
-use crate::DayAnswer;
-use crate::MonthRow;
-use crate::RowAnswer;
+use lunisolar::LunationAnswer;
+use lunisolar::dates::DateAnswer;
+use lunisolar::dates::DayAnswer;
 use refusal::Refusal;
 use units::Xinghe;
 ghost use mathlib.Core.Path.{_≡_};
-ghost use Prim.Native.Nat.{_<_};
-ghost use Rattle.calendar.specs.Dates.{dayIn, dayOfDate, dateOfDay};
-
-// The day of a month, from 1, in the month's row.
-fn day_in(row: MonthRow, day: u64) -> DayAnswer
-    requires { ⌜ (row .day < 4294967296) × (row .length < 4294967296) ⌝ }
-    ensures { λ r. ⌜ r ≡ dayIn row day ⌝ }
-{
-    if day < 1 {
-        return DayAnswer::Refused(Refusal::DayOfMonth);
-    }
-    if row.length < day {
-        return DayAnswer::Refused(Refusal::DayOfMonth);
-    }
-    let number = row.day + (day - 1);
-    DayAnswer::Answered(Day {
-        number,
-        sexagenary: units::sexagenary(number),
-    })
-}
+ghost use Rattle.calendar.specs.Dates.{dayOfDate, dateOfDay};
 
 pub fn day_of_date(year: u64, place: u64, day: u64) -> DayAnswer
     ensures { λ r. ⌜ r ≡ dayOfDate year place day ⌝ }
 {
-    match crate::rows::month_row(year, place) {
-        RowAnswer::Answered(row) => day_in(row, day),
-        RowAnswer::Refused(e) => DayAnswer::Refused(e),
+    match Xinghe::lunation_at(year, place) {
+        LunationAnswer::Lunation(m) => lunisolar::dates::day_in(Xinghe::constants(), m, day),
+        LunationAnswer::Refused(e) => DayAnswer::Refused(e),
     }
 }
 
@@ -44,10 +22,9 @@ pub fn date_of_day(number: u64) -> DateAnswer
     if Xinghe::DAYS <= number {
         return DateAnswer::Refused(Refusal::Day);
     }
-    let row = crate::rows::row_of(Xinghe::month_of_day(number));
-    DateAnswer::Answered(Date {
-        year: row.year,
-        place: row.place,
-        day: number - row.day + 1,
-    })
+    let m = Xinghe::month_of_day(number);
+    let y = Xinghe::year_of(m);
+    let before = units::chapter::months_before(y);
+    let date = lunisolar::dates::date_in(Xinghe::constants(), y, before, m, number);
+    DateAnswer::Answered(date)
 }

@@ -11,10 +11,9 @@ fn head_of(y: u64) -> YearHead
     requires { ⌜ y < 1048576 ⌝ }
     ensures { λ r. ⌜ r ≡ headOf y ⌝ }
 {
-    let span = Xinghe::year_months(y);
-    let before = span.before;
-    let remainder = Xinghe::leap_remainder(y, before);
-    let months = lunisolar::month_count(span);
+    let before = units::chapter::months_before(y);
+    let remainder = Xinghe::leap_remainder(y);
+    let months = Xinghe::month_count(y, before);
     let leap = Xinghe::leap_place(y, before);
     let solstice = sun::winter_solstice(y);
     YearHead {

@@ -10,7 +10,7 @@ pub mod dates;
 pub mod heads;
 pub mod rows;
 
-// A year: the months before it (積月), its leap remainder (閏餘), its month count, its leap place (0 for none) and its winter solstice.
+// A year: the months before it (積月), the leap remainder (閏餘) of its chapter, its month count, its leap place (0 for none) and its winter solstice.
 pub struct YearHead {
     pub before: u64,
     pub remainder: u64,
@@ -39,28 +39,5 @@ pub struct MonthRow {
 
 pub enum RowAnswer {
     Answered(MonthRow),
-    Refused(Refusal),
-}
-
-// A day: its number, and its day of the sixty, from 1.
-pub struct Day {
-    pub number: u64,
-    pub sexagenary: u64,
-}
-
-pub enum DayAnswer {
-    Answered(Day),
-    Refused(Refusal),
-}
-
-// A date: a year, a place and a day of the month, from 1.
-pub struct Date {
-    pub year: u64,
-    pub place: u64,
-    pub day: u64,
-}
-
-pub enum DateAnswer {
-    Answered(Date),
     Refused(Refusal),
 }

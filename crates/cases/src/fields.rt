@@ -1,10 +1,10 @@
 // Answers on a line: their values in the order in which every line of their question has them.
 use anomaly::Anomaly;
 use anomaly::Corrected;
-use calendar::Day;
 use calendar::MonthRow;
 use calendar::YearHead;
 use lines::Line;
+use lunisolar::dates::Day;
 use moon::phases::Phase;
 use moon::phases::Phases;
 use node::Distance;
@@ -30,7 +30,7 @@ pub fn with_row(line: Line, row: MonthRow) -> Line {
         .number(row.number)
         .leap_mark(row.leap)
         .number(row.day)
-        .number(units::sexagenary(row.day))
+        .number(lunisolar::sixty::sexagenary(row.day))
         .number(remainder.parts)
         .number(row.length)
 }

@@ -1,7 +1,5 @@
 // Questions: each writes one line, what is asked and then its values or the number of its refusal.
 use crate::fields;
-use calendar::DateAnswer;
-use calendar::DayAnswer;
 use calendar::HeadAnswer;
 use calendar::MonthRow;
 use calendar::RowAnswer;
@@ -10,6 +8,8 @@ use ephemeris::NodesAnswer;
 use ephemeris::PhasesAnswer;
 use ephemeris::PointAnswer;
 use lines::Line;
+use lunisolar::dates::DateAnswer;
+use lunisolar::dates::DayAnswer;
 use units::remainder::DayRemainder;
 ghost use Prim.Native.Nat.{_<_};
 ghost use Rattle.units.specs.Xinghe.{roundMonths};

@@ -1,14 +1,23 @@
 // Full answers for chosen years.
 use crate::questions;
 
-// The years at the seams of the round.
-const SEAMS: [u64; 15] = [
+// The years at the seams of the round, and years in which the days of the middle terms decide: a leap place one or two before the chapter's
+// (6, 11, 28, 41, 52, 294,000), and a thirteenth month that the chapter gives to the year after (19 and 20, 1,011,285 and 1,011,286).
+const SEAMS: [u64; 25] = [
     2,
     3,
     4,
+    6,
+    11,
+    19,
+    20,
+    28,
+    41,
+    52,
     168600,
     168601,
     293997,
+    294000,
     337200,
     337201,
     505800,
@@ -17,6 +26,8 @@ const SEAMS: [u64; 15] = [
     674401,
     843000,
     843001,
+    1011285,
+    1011286,
     1011600,
 ];
 
@@ -61,7 +72,7 @@ pub fn ask_spread() {
 
 pub fn ask_seams() {
     let mut i = 0;
-    while i < 15 {
+    while i < 25 {
         ask_year(SEAMS[i]);
         i += 1;
     }

@@ -1,23 +1,25 @@
 -- Of any calendar with sound constants: the laws of its leap rule, the bounds of its figures, and what its answers say.
 -- Assumes nothing.
 use mathlib.Core.Path.{_≡_, refl}
-use Prim.Native.Nat.{ℕ, zero, suc, _+_, _-_, _*_, _/_, _≤_, _<_}
+use mathlib.Core.Logic.{⊎-elim}
+use Prim.Native.Nat.{ℕ, zero, suc, _+_, _-_, _*_, _≤_, _<_}
 use native.Mathlib.Omega.{arith}
-use native.Mathlib.Nat.{mul-le-mul, mod-lt}
-use mathlib.Core.Bool.{_&&_}
-use lib.Dec.{leb, ltb, eqb, ltb→lt}
-use borrow.Author.Tests.{lt-ltb, lt-leb, ne-eqb}
-use Rattle.reckoning.specs.Search.{pick, between}
+use native.Mathlib.Nat.{mul-le-mul}
+use lib.Dec.{ltb, ltb→lt}
+use borrow.Author.Tests.{lt-ltb, le-leb}
+use mir.Val.{boolByte}
+use Rattle.reckoning.specs.Search.{between}
 use Rattle.reckoning.specs.Rule.{monthCount, leapPlace}
-use Rattle.reckoning.specs.Figures.{leapAt}
-use Rattle.reckoning.specs.Instants.{instants}
+use Rattle.reckoning.specs.Figures.{leapCome}
+use Rattle.reckoning.specs.Means.{newMoon}
 use Rattle.reckoning.proofs.Searches.{chosen, inside, between-low, between-high}
-use Rattle.reckoning.proofs.Rates.{rate, rate-low, rate-rest}
+use Rattle.reckoning.proofs.Climbs.{Climbs}
 use Rattle.reckoning.proofs.Laws.{Laws}
-use Rattle.reckoning.proofs.Chapters.{instant-laws, common-year, leap-place-by}
-use Rattle.reckoning.proofs.Leaps.{year-high, year-ends, common}
+use Rattle.reckoning.proofs.Days.{day-laws}
+use Rattle.reckoning.proofs.Moons.{moons-climb}
+use Rattle.reckoning.proofs.Leaps.{year-high, year-ends, two-kinds, Common, Long}
 use Rattle.refusal.specs.declared.Refusal.{Refusal}
-use Rattle.lunisolar.specs.Calendars.{meansOf, ruleOf, leapRemainder, Sound, yearAt, lunationFor, lunationAt}
+use Rattle.lunisolar.specs.Calendars.{meansOf, ruleOf, Sound, yearAt, lunationFor, lunationAt}
 use Rattle.lunisolar.specs.declared.Constants.{Constants}
 use Rattle.lunisolar.specs.declared.YearAnswer.{YearAnswer}
 use Rattle.lunisolar.specs.declared.LunationAnswer.{LunationAnswer}
@@ -27,21 +29,12 @@ pub product : (a b c d : ℕ) → a ≤ c → b ≤ d → a * b ≤ c * d
 product a b c d h i = mul-le-mul h i
 
 pub lawsOf : (k : Constants) → Sound k → Laws (ruleOf k)
-lawsOf k s = instant-laws (meansOf k) (k .lunations) (k .chapter) (s .rule)
+lawsOf k s = day-laws (meansOf k) (s .moon) (s .sun)
 
 module _ (k : Constants) (s : Sound k) where
-  pub before-is : (y : ℕ) → ruleOf k .before y ≡ y * k .lunations / k .chapter
-  unfolding instants
-  before-is y = refl
-
-  -- times the chapter's years they leave, of the chapter's months times the year, the leap remainder
-  pub before-low : (y : ℕ) → ruleOf k .before y * k .chapter ≤ y * k .lunations
-  unfolding instants rate
-  before-low y = rate-low (k .lunations) (k .chapter) (s .rule .years-pos) y
-
-  pub remainder-is : (y : ℕ) → y * k .lunations - ruleOf k .before y * k .chapter ≡ leapRemainder k y
-  unfolding instants rate
-  remainder-is y = rate-rest (k .lunations) (k .chapter) (s .rule .years-pos) y
+  -- the new moons climb, so each day lies in one month
+  pub days-climb : Climbs (newMoon (meansOf k))
+  days-climb = moons-climb (meansOf k) (s .moon)
 
   -- 12 to 13 months a year
   pub before-bound : (y : ℕ) → ruleOf k .before y ≤ 13 * y
@@ -51,32 +44,18 @@ module _ (k : Constants) (s : Sound k) where
   pub count-bound : (y : ℕ) → monthCount (ruleOf k) y ≤ 13
   count-bound y = omega (arith, year-ends (ruleOf k) (lawsOf k s) y, year-high (ruleOf k) (lawsOf k s) y)
 
-  pub rest-lt : (y : ℕ) → leapRemainder k y < k .chapter
-  rest-lt y = mod-lt (y * k .lunations) (s .rule .years-pos)
+  -- a year has a thirteenth month where its leap month has come by place 12
+  pub count-by : (y : ℕ) → 12 + boolByte (leapCome (leapPlace (ruleOf k) y) 12) ≡ monthCount (ruleOf k) y
+  unfolding leapCome
+  count-by y =
+      let l : ℕ = leapPlace (ruleOf k) y in
+      ⊎-elim
+      (λ (c : Common (ruleOf k) (lawsOf k s) y). rw (c .place, c .count) refl)
+      (λ (c : Long (ruleOf k) (lawsOf k s) y). rw (lt-ltb 0 l (c .leap .from), le-leb l 12 (c .leap .upto), c .count) refl)
+      (two-kinds (ruleOf k) (lawsOf k s) y)
 
-  -- the leap place, as it is computed from the leap remainder
-  leaps-are : k .lunations ≡ 12 * k .chapter + (k .lunations - 12 * k .chapter)
-  leaps-are = omega (arith, s .rule .low)
-
-  pub no-leap : (y : ℕ) → leapRemainder k y + (k .lunations - 12 * k .chapter) < k .chapter → leapPlace (ruleOf k) y ≡ 0
-  no-leap y h =
-      common (ruleOf k) (lawsOf k s) y
-      (common-year (meansOf k) (k .lunations) (k .chapter) (s .rule) (k .lunations - 12 * k .chapter) leaps-are y h) .place
-
-  pub one-leap : (y : ℕ) → k .chapter ≤ leapRemainder k y + (k .lunations - 12 * k .chapter) →
-      leapPlace (ruleOf k) y ≡ (12 * (k .chapter - leapRemainder k y) + (k .lunations - 12 * k .chapter - 1)) / (k .lunations - 12 * k .chapter)
-  one-leap y h = leap-place-by (meansOf k) (k .lunations) (k .chapter) (s .rule) (k .lunations - 12 * k .chapter) leaps-are y h
-
--- where a place below 13 stands to the leap place, or to 13 where there is none
-module _ (place : ℕ) (h : place < 13) where
-  pub from-leap : (leap : ℕ) → leb (pick (eqb leap 0) 13 leap) place ≡ (ltb 0 leap && leb leap place)
-  from-leap zero = lt-leb 13 place h
-  from-leap (suc l) = rw (ne-eqb (suc l) 0 (λ e. omega (arith, e)), lt-ltb 0 (suc l) (omega arith))
-
-  pub at-leap : (leap : ℕ) → eqb place (pick (eqb leap 0) 13 leap) ≡ leapAt leap place
-  unfolding leapAt
-  at-leap zero = ne-eqb place 13 (λ e. omega (arith, e))
-  at-leap (suc l) = rw (ne-eqb (suc l) 0 (λ e. omega (arith, e)), lt-ltb 0 (suc l) (omega arith))
+  pub lunations-bound : k .lunations < 16777216
+  lunations-bound = omega (arith, s .lunations, s .years, before-bound (k .years))
 
 -- a year that is answered is one of the calendar's
 pub record YearFound (k : Constants) (n y : ℕ) : Type 0 where

@@ -1,1 +1,5 @@
 pub mod Laws
+pub mod Figures
+pub mod Sexagenary
+pub mod Rounds
+pub mod Days

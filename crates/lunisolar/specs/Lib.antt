@@ -1,1 +1,5 @@
+pub mod Sixty
 pub mod Calendars
+pub mod Names
+pub mod Dates
+pub mod Answers

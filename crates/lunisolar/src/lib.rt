@@ -2,17 +2,17 @@
 // Years are counted from 0 here, and months from 0 over the whole calendar.
 use refusal::Refusal;
 ghost use mathlib.Core.Path.{_≡_};
-ghost use Prim.Native.Nat.{_+_, _-_, _≤_};
+ghost use Prim.Native.Nat.{_<_};
 ghost use lib.Dec.{ltb};
-ghost use Rattle.reckoning.specs.Search.{pick};
-ghost use Rattle.reckoning.specs.Dates.{monthOf};
-ghost use Rattle.reckoning.specs.Means.{newMoon};
-ghost use Rattle.refusal.specs.declared.Refusal.{Refusal};
-ghost use Rattle.lunisolar.specs.Calendars.{Sound, meansOf, yearAt};
-ghost use Rattle.lunisolar.specs.declared.LunationAnswer.{LunationAnswer};
+ghost use Rattle.reckoning.specs.Rule.{monthCount};
+ghost use Rattle.lunisolar.specs.Calendars.{Sound, ruleOf, yearAt, lunationFor};
+ghost use Rattle.lunisolar.specs.declared.YearAnswer.{YearAnswer};
 
-pub mod numbering;
+pub mod dates;
+pub mod means;
+pub mod naming;
 pub mod rule;
+pub mod sixty;
 
 // A year is year/degree days and a month month/day days.
 pub struct Constants {
@@ -22,19 +22,11 @@ pub struct Constants {
     pub month: u64,
     // the day divisor (日法)
     pub day: u64,
-    // the years and the months of a chapter (章歲, 章月)
-    pub chapter: u64,
-    pub lunations: u64,
-    // the number of the first year, and how many there are
+    // the number of the first year, and how many years there are, with their months and days
     pub first: u64,
     pub years: u64,
-}
-
-// The months before a year, and until the next one begins. Each calendar finds them its own way, by a table or a division, and hands them
-// in: nothing here works them out.
-pub struct YearMonths {
-    pub before: u64,
-    pub until: u64,
+    pub lunations: u64,
+    pub days: u64,
 }
 
 // How many years are past before a year as it is written.
@@ -47,22 +39,6 @@ pub enum YearAnswer {
 pub enum LunationAnswer {
     Lunation(u64),
     Refused(Refusal),
-}
-
-// The months of a year.
-pub fn month_count(span: YearMonths) -> u64
-    requires { ⌜ span .before ≤ span .until ⌝ }
-    ensures { λ r. ⌜ r ≡ span .until - span .before ⌝ }
-{
-    span.until - span.before
-}
-
-// The month that a day lies in.
-pub fn month_of_day(k: Constants, d: u64) -> u64
-    requires { ⌜ Sound k × (d ≤ 1073741824) ⌝ }
-    ensures { λ r. ⌜ r ≡ monthOf (newMoon (meansOf k)) d ⌝ }
-{
-    (d * k.day + (k.day - 1)) / k.month
 }
 
 // The years past before a year as it is written.
@@ -80,13 +56,25 @@ pub fn year_at(k: Constants, year: u64) -> YearAnswer
     YearAnswer::Past(past)
 }
 
-// The month at a place of a year, from the months before the year and until the next.
-pub fn lunation_in(span: YearMonths, place: u64) -> LunationAnswer
-    requires { ⌜ span .before ≤ span .until ⌝ }
-    ensures { λ r. ⌜ r ≡ pick (ltb place (span .until - span .before)) (LunationAnswer.Lunation (span .before + place)) (LunationAnswer.Refused Refusal.Place) ⌝ }
+// Whether year y, counted from 0, with so many months before it, has a place.
+fn has_place(k: Constants, y: u64, before: u64, place: u64) -> bool
+    requires { ⌜ Sound k × (y < 1048576) × (before ≡ ruleOf k .before y) ⌝ }
+    ensures { λ r. ⌜ r ≡ ltb place (monthCount (ruleOf k) y) ⌝ }
 {
-    if place < month_count(span) {
-        LunationAnswer::Lunation(span.before + place)
+    // Every year has twelve months: the thirteenth is seldom asked for, and only then looked for.
+    if place < 12 {
+        return true;
+    }
+    place < rule::month_count(k, y, before)
+}
+
+// The month at a place of year y, counted from 0, from the months before it.
+pub fn lunation_in(k: Constants, y: u64, before: u64, place: u64) -> LunationAnswer
+    requires { ⌜ Sound k × (y < 1048576) × (before ≡ ruleOf k .before y) ⌝ }
+    ensures { λ r. ⌜ r ≡ lunationFor k (YearAnswer.Past y) place ⌝ }
+{
+    if has_place(k, y, before, place) {
+        LunationAnswer::Lunation(before + place)
     } else {
         LunationAnswer::Refused(Refusal::Place)
     }

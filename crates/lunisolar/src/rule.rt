@@ -1,35 +1,77 @@
-// THE LEAP RULE in figures: what the chapter gives. Years are counted from 0.
+// THE LEAP RULE in figures: days of new moons and of middle terms are compared, nothing else. Years are counted from 0.
 use crate::Constants;
+use crate::means::new_moon_day;
+use crate::means::term_from;
 ghost use mathlib.Core.Path.{_≡_};
-ghost use Prim.Native.Nat.{_≤_, _<_};
-ghost use Rattle.reckoning.specs.Rule.{leapPlace, yearOf};
-ghost use Rattle.lunisolar.specs.Calendars.{Sound, ruleOf, leapRemainder};
+ghost use Prim.Native.Nat.{_+_, _≤_, _<_};
+ghost use Rattle.reckoning.specs.Rule.{monthCount, leapPlace, yearOf};
+ghost use Rattle.reckoning.specs.Figures.{leapCome, leapToCome, thirdBefore};
+ghost use Rattle.lunisolar.specs.Calendars.{Sound, ruleOf};
 
-// The leap remainder of year y (閏餘), from the months before it: what they, times the chapter's years, leave of the chapter's months times y.
-pub fn leap_remainder(k: Constants, y: u64, before: u64) -> u64
-    requires { ⌜ Sound k × (y ≤ 1048576) × (before ≡ ruleOf k .before y) ⌝ }
-    ensures { λ r. ⌜ r ≡ leapRemainder k y ⌝ }
+// The months before year y, from a count that may be one short: one more where the month after so many begins on the solstice's day.
+pub fn months_from(k: Constants, y: u64, count: u64) -> u64
+    requires { ⌜ Sound k × (y ≤ 1048576) × (count ≤ ruleOf k .before y) × (ruleOf k .before y ≤ count + 1) ⌝ }
+    ensures { λ r. ⌜ r ≡ ruleOf k .before y ⌝ }
 {
-    y * k.lunations - before * k.chapter
+    if term_from(k, 12 * y, new_moon_day(k, count + 1)) {
+        count + 1
+    } else {
+        count
+    }
 }
 
-// The place of the leap month of year y, from the months before it; 0 where it has none.
+// Whether the leap month of year y, with so many months before it, stands at a place or before: that place's middle term then falls on the
+// next month's first day or later.
+pub fn leap_come(k: Constants, y: u64, before: u64, place: u64) -> bool
+    requires { ⌜ Sound k × (y < 1048576) × (before ≡ ruleOf k .before y) × (place ≤ 12) ⌝ }
+    ensures { λ r. ⌜ r ≡ leapCome (leapPlace (ruleOf k) y) place ⌝ }
+{
+    term_from(k, 12 * y + place, new_moon_day(k, before + place + 1))
+}
+
+// 1 where no leap month stands at a place or before, else 0.
+fn leap_to_come(k: Constants, y: u64, before: u64, place: u64) -> u64
+    requires { ⌜ Sound k × (y < 1048576) × (before ≡ ruleOf k .before y) × (place ≤ 12) ⌝ }
+    ensures { λ r. ⌜ (r ≡ leapToCome (leapPlace (ruleOf k) y) place) × (r ≤ 1) ⌝ }
+{
+    !leap_come(k, y, before, place) as u64
+}
+
+// The last of the places 0, 3, 6 and 9 before the leap month, and 9 where there is none.
+fn third_before_leap(k: Constants, y: u64, before: u64) -> u64
+    requires { ⌜ Sound k × (y < 1048576) × (before ≡ ruleOf k .before y) ⌝ }
+    ensures { λ r. ⌜ (r ≡ thirdBefore (leapPlace (ruleOf k) y)) × (r ≤ 9) ⌝ }
+{
+    let three = leap_to_come(k, y, before, 3);
+    let six = leap_to_come(k, y, before, 6);
+    let nine = leap_to_come(k, y, before, 9);
+    3 * (three + six + nine)
+}
+
+// The months of year y: a thirteenth where the leap month has come by place 12, which is then the last.
+pub fn month_count(k: Constants, y: u64, before: u64) -> u64
+    requires { ⌜ Sound k × (y < 1048576) × (before ≡ ruleOf k .before y) ⌝ }
+    ensures { λ r. ⌜ r ≡ monthCount (ruleOf k) y ⌝ }
+{
+    12 + leap_come(k, y, before, 12) as u64
+}
+
+// The place of the leap month of year y, from the months before it; 0 where it has none. Two looks find it, at every third place and then
+// between two of them. They are taken in every year: a jump would often be guessed wrongly.
 pub fn leap_place(k: Constants, y: u64, before: u64) -> u64
     requires { ⌜ Sound k × (y < 1048576) × (before ≡ ruleOf k .before y) ⌝ }
     ensures { λ r. ⌜ r ≡ leapPlace (ruleOf k) y ⌝ }
 {
-    let rest = leap_remainder(k, y, before);
-    let leaps = k.lunations - 12 * k.chapter;
-    if rest + leaps < k.chapter {
-        return 0;
-    }
-    (12 * (k.chapter - rest) + (leaps - 1)) / leaps
+    let third = third_before_leap(k, y, before);
+    let one = leap_to_come(k, y, before, third + 1);
+    let two = leap_to_come(k, y, before, third + 2);
+    (third + one + two + 1) * (month_count(k, y, before) - 12)
 }
 
-// The year of month m.
+// The year of month m: the last whose solstice falls before the next month's first day.
 pub fn year_of(k: Constants, m: u64) -> u64
     requires { ⌜ Sound k × (m < 16777216) ⌝ }
     ensures { λ r. ⌜ r ≡ yearOf (ruleOf k) m ⌝ }
 {
-    (m * k.chapter + (k.chapter - 1)) / k.lunations
+    (new_moon_day(k, m + 1) * k.degree - 1) / k.year
 }

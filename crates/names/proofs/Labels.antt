@@ -11,8 +11,8 @@ use lib.Seq.{getD-take, getD-drop, length-take-le}
 use Rattle.reckoning.specs.Search.{pick, listFrom}
 use Rattle.reckoning.proofs.Searches.{between-T, between-low, through, list-same}
 use Rattle.refusal.specs.declared.Refusal.{Refusal}
-use Rattle.units.specs.Units.{sixty, sexagenaryOf}
-use Rattle.units.proofs.Sixty.{sexagenary-low, sexagenary-high}
+use Rattle.lunisolar.specs.Sixty.{sixty, sexagenaryOf}
+use Rattle.lunisolar.proofs.Sexagenary.{sexagenary-low, sexagenary-high}
 use Rattle.names.specs.Names.{nameBytes, listBytes, Bytes, size, slice, isList, inSixty, nameAt, locationFor, locationNumber, nameFrom, labelOf, labelNumber}
 use Rattle.names.specs.declared.Whose.{Whose}
 use Rattle.names.specs.declared.LocationAnswer.{LocationAnswer}

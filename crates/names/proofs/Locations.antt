@@ -6,7 +6,7 @@ use native.Mathlib.Omega.{arith}
 use lib.Dec.{T, eqb→eq, eqb-refl}
 use Rattle.reckoning.proofs.Searches.{pick-cases, between-low, between-high}
 use Rattle.refusal.specs.declared.Refusal.{Refusal}
-use Rattle.units.specs.Units.{sixty}
+use Rattle.lunisolar.specs.Sixty.{sixty}
 use Rattle.names.specs.Names.{nameBytes, listBytes, Bytes, size, isList, inSixty, nameAt, locationFor, listOf, labelLocation}
 use Rattle.names.specs.declared.Whose.{Whose}
 use Rattle.names.specs.declared.LocationAnswer.{LocationAnswer}

@@ -9,7 +9,7 @@ use lib.Dec.{T}
 use lib.ListN.{length}
 use Rattle.reckoning.specs.Search.{listFrom}
 use Rattle.reckoning.proofs.Searches.{between-low, between-high}
-use Rattle.units.specs.Units.{sixty, sexagenaryOf}
+use Rattle.lunisolar.specs.Sixty.{sixty, sexagenaryOf}
 use Rattle.names.specs.Names.{nameBytes, listBytes, Bytes, size, inSixty, labelOf}
 use Rattle.names.specs.Ganzhi.{ganzhiOf, ganzhi}
 use Rattle.names.proofs.Labels.{house-otherwise, day-in-sixty}

@@ -5,7 +5,7 @@ use Prim.Native.Nat.{ℕ, _+_, _/_, _%_}
 use Prim.Native.Char.{Char, code}
 use lib.ListN.{length, getD}
 use Rattle.reckoning.specs.Search.{listFrom}
-use Rattle.units.specs.Units.{sixty}
+use Rattle.lunisolar.specs.Sixty.{sixty}
 
 -- the ten stems (天干) and the twelve branches (地支)
 abbrev pub stems : List Char

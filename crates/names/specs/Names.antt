@@ -9,7 +9,7 @@ use denote.Ref.{RefT}
 use Rattle.reckoning.specs.Search.{pick, between}
 use Rattle.refusal.specs.Numbers.{numberOf}
 use Rattle.refusal.specs.declared.Refusal.{Refusal}
-use Rattle.units.specs.Units.{sixty}
+use Rattle.lunisolar.specs.Sixty.{sixty}
 use Rattle.names.specs.declared.Whose.{Whose}
 use Rattle.names.specs.declared.NameLocation.{NameLocation}
 use Rattle.names.specs.declared.LocationAnswer.{LocationAnswer}

@@ -8,7 +8,7 @@ pub mod ganzhi;
 // The bytes of a name, and of a list of sixty names.
 const NAME: usize = 6;
 
-const LIST: usize = units::SIXTY as usize * NAME;
+const LIST: usize = lunisolar::sixty::SIXTY as usize * NAME;
 
 // Whose list of names.
 pub enum Whose {
@@ -56,7 +56,7 @@ pub fn label_location(day: u64, theirs: usize, house: usize) -> LocationAnswer
     if day < 1 {
         return LocationAnswer::Refused(Refusal::DayOfSixty);
     }
-    if units::SIXTY < day {
+    if lunisolar::sixty::SIXTY < day {
         return LocationAnswer::Refused(Refusal::DayOfSixty);
     }
     let from = NAME * (day - 1) as usize;

@@ -10,8 +10,9 @@ use native.Mathlib.Omega.{arith}
 use lib.Dec.{eqb, eqb→eq}
 use borrow.Author.Tests.{le-leb, lt-leb}
 use Rattle.reckoning.proofs.Searches.{all-at, le-or-lt}
-use Rattle.lunisolar.proofs.Laws.{before-is}
-use Rattle.units.specs.Xinghe.{xinghe, rule, N, P, M, eraYears, eraMonths, roundMonths}
+use Rattle.reckoning.specs.Means.{termDay}
+use Rattle.reckoning.proofs.Days.{day-before}
+use Rattle.units.specs.Xinghe.{means, rule, N, P, M, eraYears, eraMonths, roundMonths}
 use Rattle.units.proofs.Sound.{sound}
 use Rattle.node.specs.Eclipses.{distanceOf, eclipseAt, eclipseOf, noEclipse, nodeAt}
 use Rattle.node.specs.Sides.{heads, headIn, ownHead, distance}
@@ -19,7 +20,8 @@ use Rattle.node.specs.Nodes.{nodesOf}
 
 -- an era's head is the first month of its first year
 pub era-heads : (e : ℕ) → rule .before (e * eraYears) ≡ e * eraMonths
-era-heads e = omega (arith, before-is xinghe sound (e * eraYears))
+unfolding termDay
+era-heads e = omega (arith, day-before means (sound .moon) (sound .sun) (e * eraYears))
 
 -- THE PRINTED DISTANCES OF THE HEADS are what the arithmetic gives
 pub heads-right : map distance heads ≡ map (λ (e : ℕ). e * eraMonths * P % M) (0 ∷ 1 ∷ 2 ∷ 3 ∷ 4 ∷ 5 ∷ [])

@@ -10,9 +10,9 @@ pub record Laws (R : Rule) : Type 0 where
   pub month : ℕ → ℕ
   pub held : (j : ℕ) → T (R .holds (month j) j)
   pub only : (m j : ℕ) → T (R .holds m j) → m ≡ month j
-  -- the terms rise through the months, by one at least from each to the next and by thirteen at most through a year
+  -- the terms rise through the months, by one at least from each to the next and by thirteen at most through any twelve
   pub start : month 0 ≡ 0
   pub rise : (j : ℕ) → month j < month (suc j)
-  pub year : (y : ℕ) → month (12 * suc y) ≤ month (12 * y) + 13
+  pub span : (j : ℕ) → month (j + 12) ≤ month j + 13
   -- a year begins with the month that holds its first term
   pub opens : (y : ℕ) → R .before y ≡ month (12 * y)

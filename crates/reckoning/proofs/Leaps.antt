@@ -1,14 +1,16 @@
 -- What follows from a rule's laws alone: at most one middle term to a month, years of 12 or 13 months, and the leap month.
 -- Assumes nothing.
-use mathlib.Core.Path.{_≡_, _∙_, ap}
-use mathlib.Core.Logic.{_⊎_, inl, inr, ⊎-elim, _≢_}
+use mathlib.Core.Path.{_≡_, _∙_, ap, sym}
+use mathlib.Core.Logic.{_⊎_, inl, inr, ⊎-elim, _≢_, _↔_}
 use mathlib.Core.Bool.{Bool}
 use Prim.Native.Nat.{ℕ, suc, _+_, _-_, _*_, _≤_, _<_}
 use native.Mathlib.Omega.{arith}
 use native.Mathlib.Nat.{mul-suc}
+use borrow.Author.Tests.{lt-ltb, le-ltb, le-leb, lt-leb}
 use lib.Dec.{T, ltb, T-not, not-T, lt→ltb, ltb→lt}
 use Rattle.reckoning.specs.Search.{any}
 use Rattle.reckoning.specs.Rule.{Rule, monthCount, isLeap, leapPlace}
+use Rattle.reckoning.specs.Figures.{leapCome}
 use Rattle.reckoning.proofs.Searches.{first-is, first-none, any-of, any-gives, least, le-or-lt, same-or, not-ltb}
 use Rattle.reckoning.proofs.Climbs.{Climbs, climb-by, climb-lt}
 use Rattle.reckoning.proofs.Laws.{Laws}
@@ -25,7 +27,7 @@ module _ (R : Rule) (L : Laws R) where
   year-low y = rw (L .opens y, L .opens (suc y), mul-suc 12 y) (rises-by 12 (12 * y))
 
   pub year-high : (y : ℕ) → R .before (suc y) ≤ R .before y + 13
-  year-high y = rw (L .opens y, L .opens (suc y)) (L .year y)
+  year-high y = rw (L .opens y, L .opens (suc y), mul-suc 12 y) (L .span (12 * y))
 
   pub years-climb : Climbs (R .before)
   years-climb = record { start = L .opens 0 ∙ L .start; step = λ y. omega (arith, year-low y) }
@@ -33,6 +35,10 @@ module _ (R : Rule) (L : Laws R) where
   pub year-ends : (y : ℕ) → R .before y + monthCount R y ≡ R .before (suc y)
   unfolding monthCount
   year-ends y = omega (arith, year-low y)
+
+  -- A YEAR BEGINS WITH THE MONTH THAT HOLDS ITS SOLSTICE, which is its first middle term, and with no other
+  pub solstice-month : (m y : ℕ) → T (R .holds m (12 * y)) ↔ (m ≡ R .before y)
+  solstice-month m y = (λ t. L .only m (12 * y) t ∙ sym (L .opens y), λ e. rw (e, L .opens y) (L .held (12 * y)))
 
   -- EACH MONTH HOLDS AT MOST ONE MIDDLE TERM
   pub one-term : (m i j : ℕ) → T (R .holds m i) → T (R .holds m j) → i ≡ j
@@ -119,19 +125,6 @@ module _ (R : Rule) (L : Laws R) where
           first-is (λ p. isLeap R y (R .before y + p)) (R .before (suc y) - R .before y) 0 l (omega arith) (omega arith) step-leap
           (λ q a b. step-full q (omega arith) (omega arith))
 
-    -- a step over a month between two neighbouring terms is the leap month's place
-    module _ (q : ℕ) (near : q < 12) (at : L .month (12 * y + q) ≤ R .before y + q) (on : R .before y + suc q < L .month (12 * y + suc q)) where
-      step-long : R .before (suc y) ≡ R .before y + 13
-      step-long = omega (arith, term-high (suc q) (omega arith), year-high y)
-
-      step-under : (k : ℕ) → k < suc q → L .month (12 * y + k) ≤ R .before y + k
-      step-under k h =
-          let i : 12 * y + k + (q - k) ≡ 12 * y + q = omega arith in
-          omega (arith, rw i at (rises-by (q - k) (12 * y + k)))
-
-      pub leap-is : leapPlace R y ≡ suc q
-      leap-is = step-place (suc q) (omega arith) step-long (omega arith) step-under on
-
   -- a year of thirteen months: its leap place holds the one leap month
   pub record LeapYear (y l : ℕ) : Type 0 where
     pub from : 1 ≤ l
@@ -139,6 +132,9 @@ module _ (R : Rule) (L : Laws R) where
     pub place : leapPlace R y ≡ l
     pub leap : T (isLeap R y (R .before y + l))
     pub alone : (p : ℕ) → p < 13 → T (isLeap R y (R .before y + p)) → p ≡ l
+    -- term k lies at place k before it, and one place on from there
+    pub early : (k : ℕ) → k < l → L .month (12 * y + k) ≡ R .before y + k
+    pub late : (k : ℕ) → l ≤ k → k ≤ 12 → L .month (12 * y + k) ≡ R .before y + k + 1
 
   leap-from : (y l : ℕ) → R .before (suc y) ≡ R .before y + 13 → l ≤ 12 → R .before y + l < L .month (12 * y + l)
       → ((k : ℕ) → k < l → L .month (12 * y + k) ≤ R .before y + k) → LeapYear y l
@@ -155,6 +151,8 @@ module _ (R : Rule) (L : Laws R) where
             (λ (e : p ≡ l). e)
             (λ (n : p ≢ l). absurd (step-full y l some long top under over p h n t))
             (same-or p l);
+        early = λ k h. omega (arith, term-low y k, under k h);
+        late = late y l some long top under over;
       }
 
   pub leap-year : (y : ℕ) → R .before (suc y) ≡ R .before y + 13 → LeapYear y (leapPlace R y)
@@ -187,3 +185,23 @@ module _ (R : Rule) (L : Laws R) where
       (λ (a : R .before (suc y) ≤ R .before y + 12). inl (common y (omega (arith, year-low y))))
       (λ (b : R .before y + 12 < R .before (suc y)). inr (long y (omega (arith, year-high y))))
       (le-or-lt (R .before (suc y)) (R .before y + 12))
+
+  -- whether term p lies beyond the month at place p: whether the leap month stands at p or before
+  pub past-leap : (y p : ℕ) → p ≤ 12 → ltb (R .before y + p) (L .month (12 * y + p)) ≡ leapCome (leapPlace R y) p
+  unfolding leapCome
+  past-leap y p h = ⊎-elim of-common of-long (two-kinds y)
+    where
+      of-common : Common y → ltb (R .before y + p) (L .month (12 * y + p)) ≡ leapCome (leapPlace R y) p
+      of-common c =
+          rw (le-ltb 0 (leapPlace R y) (omega (arith, c .place)))
+          (le-ltb (R .before y + p) (L .month (12 * y + p)) (omega (arith, term-high y p h, year-ends y, c .count)))
+
+      of-long : Long y → ltb (R .before y + p) (L .month (12 * y + p)) ≡ leapCome (leapPlace R y) p
+      of-long c =
+          rw (lt-ltb 0 (leapPlace R y) (omega (arith, c .leap .from)))
+          (⊎-elim
+          (λ (a : leapPlace R y ≤ p).
+          rw (le-leb (leapPlace R y) p a) (lt-ltb (R .before y + p) (L .month (12 * y + p)) (omega (arith, c .leap .late p a h))))
+          (λ (a : p < leapPlace R y).
+          rw (lt-leb (leapPlace R y) p a) (le-ltb (R .before y + p) (L .month (12 * y + p)) (omega (arith, c .leap .early p a))))
+          (le-or-lt (leapPlace R y) p))

@@ -4,6 +4,7 @@ pub mod Rates
 pub mod Laws
 pub mod Leaps
 pub mod Rows
-pub mod Days
+pub mod Dates
 pub mod Moons
+pub mod Days
 pub mod Chapters

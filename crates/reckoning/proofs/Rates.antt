@@ -40,11 +40,6 @@ module _ (a b : ℕ) (pos : 0 < b) where
   pub rate-within : (d k n : ℕ) → k * a ≤ d * b → rate a b (n + k) ≤ rate a b n + d
   rate-within d k n h = omega (arith, rate-lt (rate a b n + d + 1) (n + k) (omega (arith, rate-high n)))
 
-  -- what is left by the rounding
-  pub rate-rest : (n : ℕ) → n * a - rate a b n * b ≡ n * a % b
-  unfolding rate
-  rate-rest n = omega (arith, div-add-mod' (n * a) b)
-
   -- each whole b of the steps gains a, and the rest of them what they gain by themselves
   pub rate-rounds : (n : ℕ) → rate a b n ≡ n / b * a + rate a b (n % b)
   rate-rounds n =

@@ -9,7 +9,7 @@ use borrow.Author.Tests.{lt-ltb, le-ltb, le-leb, lt-leb, eq-eqb, ne-eqb}
 use lib.Dec.{ltb, eqb}
 use Rattle.reckoning.specs.Search.{pick}
 use Rattle.reckoning.specs.Rule.{Rule, monthCount, isLeap, leapPlace, monthNumber, yearOf, placeOf}
-use Rattle.reckoning.specs.Figures.{leapAt, numberAt}
+use Rattle.reckoning.specs.Figures.{leapAt, leapCome, numberBy, numberAt}
 use Rattle.reckoning.proofs.Searches.{le-or-lt, same-or, T-true, T-false}
 use Rattle.reckoning.proofs.Climbs.{climb-lt, last-low, last-high, last-is}
 use Rattle.reckoning.proofs.Laws.{Laws}
@@ -17,7 +17,7 @@ use Rattle.reckoning.proofs.Leaps.{years-climb, year-ends, two-kinds, C
 
 -- from a place to the next
 number-step : (l p : ℕ) → pick (leapAt l (suc p)) (numberAt l p) (numberAt l p % 12 + 1) ≡ numberAt l (suc p)
-unfolding leapAt numberAt
+unfolding leapAt leapCome numberBy
 number-step l p =
     ⊎-elim
     (λ (a : 1 ≤ l). ⊎-elim
@@ -87,7 +87,7 @@ module _ (R : Rule) (L : Laws R) where
 
   -- and its number
   pub number-at : (y p : ℕ) → p < monthCount R y → monthNumber R y p ≡ numberAt (leapPlace R y) p
-  unfolding monthNumber numberAt
+  unfolding monthNumber leapCome numberBy
   number-at y zero h = ⊎-elim
       (λ (a : 1 ≤ leapPlace R y). rw (lt-ltb 0 (leapPlace R y) a, lt-leb (leapPlace R y) 0 a) refl)
       (λ (b : leapPlace R y < 1). rw (le-ltb 0 (leapPlace R y) (omega arith)) refl)

@@ -1,4 +1,4 @@
--- The month on which a day falls, where month m begins on day `day m`.
+-- The month in which a day falls, where month m begins on day `day m`.
 -- Assumes nothing.
 use Prim.Native.Nat.{ℕ}
 use Rattle.reckoning.specs.Climb.{last}

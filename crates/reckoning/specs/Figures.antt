@@ -1,13 +1,31 @@
 -- A month's leap mark and number in figures, from its year's leap place (0 for none) and its own place: what a program computes.
--- The laws `leap-at` and `number-at` of proofs/Rows.antt show that they are what specs/Rule.antt defines.
+-- The laws `leap-at` and `number-at` of proofs/Rows.antt show that the mark and the number are what specs/Rule.antt defines, and `past-leap`
+-- of proofs/Leaps.antt what `leapCome` says of the middle terms.
 -- Assumes nothing.
 use mathlib.Core.Bool.{Bool, _&&_}
-use Prim.Native.Nat.{ℕ, _+_, _%_}
+use Prim.Native.Nat.{ℕ, _+_, _*_, _%_}
 use lib.Dec.{leb, ltb, eqb}
 use Rattle.reckoning.specs.Search.{pick}
 
+-- the month at that place is the leap month
 unfoldable pub leapAt : ℕ → ℕ → Bool
 leapAt leap place = ltb 0 leap && eqb place leap
 
-unfoldable pub numberAt : ℕ → ℕ → ℕ
-numberAt leap place = (place + pick (ltb 0 leap && leb leap place) 9 10) % 12 + 1
+-- the leap month stands at that place or before
+unfoldable pub leapCome : ℕ → ℕ → Bool
+leapCome leap place = ltb 0 leap && leb leap place
+
+-- 1 where none stands at that place or before, as also in a year that has none, else 0
+abbrev pub leapToCome : ℕ → ℕ → ℕ
+leapToCome leap place = pick (leapCome leap place) 0 1
+
+-- the last of the places 0, 3, 6 and 9 before the leap month; 9 in a year that has none
+abbrev pub thirdBefore : ℕ → ℕ
+thirdBefore leap = 3 * (leapToCome leap 3 + leapToCome leap 6 + leapToCome leap 9)
+
+-- the month number at that place, where the leap month has come by then or hasn't
+unfoldable pub numberBy : Bool → ℕ → ℕ
+numberBy come place = (place + pick come 9 10) % 12 + 1
+
+abbrev pub numberAt : ℕ → ℕ → ℕ
+numberAt leap place = numberBy (leapCome leap place) place

@@ -2,6 +2,7 @@ pub mod Search
 pub mod Climb
 pub mod Rule
 pub mod Means
-pub mod Instants
 pub mod Dates
+pub mod Days
+pub mod Chapters
 pub mod Figures

@@ -1,12 +1,12 @@
--- A calendar's leap rule, and what 01 "Years and months" defines from it. Years are counted from 0 here, as the years past (算上 less one);
--- months are counted from 0 over the round; term j of the round is middle term k of year y where j = 12·y + k.
+-- A calendar's leap rule, and what 01 "Years and months" defines from it. Years are counted from 0 here, as the years past (算上 less one
+-- where a calendar's first year is 1); months are counted from 0 at the origin; term j is middle term k of year y where j = 12·y + k.
 -- Assumes nothing.
 use mathlib.Core.Bool.{Bool, not}
 use Prim.Native.Nat.{ℕ, zero, suc, _+_, _-_, _*_, _%_}
 use Rattle.reckoning.specs.Search.{pick, any, firstFrom}
 use Rattle.reckoning.specs.Climb.{last}
 
--- THE LEAP RULE: the months before a year (積月), and whether a month holds a middle term (中氣)
+-- THE LEAP RULE: the months before a year (積月 where a chapter gives them), and whether month m holds middle term j (中氣)
 pub record Rule : Type 0 where
   pub before : ℕ → ℕ
   pub holds : ℕ → ℕ → Bool
@@ -16,7 +16,7 @@ module _ (R : Rule) where
   unfoldable pub monthCount : ℕ → ℕ
   monthCount y = R .before (suc y) - R .before y
 
-  -- the leap month (閏月): month m holds none of the twelve middle terms of its year y
+  -- the leap month (閏月): month m holds none of the twelve middle terms of its year y, and so none at all (`leap-holds-none`)
   unfoldable pub isLeap : ℕ → ℕ → Bool
   isLeap y m = not (any (λ k. R .holds m (12 * y + k)) 12)
 

@@ -1,11 +1,17 @@
--- 01's starred cases follow from the definitions: the year of a month by its closed form, all else computed.
+-- The starred cases follow from the definitions: the months before a year and the year of a month by their closed forms, all else computed.
 -- Assumes nothing.
-use mathlib.Core.Path.{refl}
+use mathlib.Core.Path.{_≡_, refl}
+use Prim.Native.Nat.{_+_, _-_, _*_, _/_}
 use Rattle.reckoning.specs.Search.{between, firstFrom, any}
-use Rattle.reckoning.specs.Rule.{monthCount, isLeap, leapPlace, monthNumber, placeOf}
-use Rattle.reckoning.specs.Means.{newMoon, newMoonRest}
-use Rattle.reckoning.specs.Instants.{instants, instantIn}
+use Rattle.reckoning.specs.Rule.{Rule, monthCount, isLeap, leapPlace, monthNumber, placeOf}
+use Rattle.reckoning.specs.Means.{newMoon, newMoonRest, termDay}
+use Rattle.reckoning.specs.Days.{termIn}
+use Rattle.reckoning.specs.Chapters.{chapterRest}
+use Rattle.reckoning.proofs.Days.{figured}
 use Rattle.lunisolar.specs.Calendars.{yearAt, lunationFor}
+use Rattle.lunisolar.specs.Names.{nameOf}
+use Rattle.units.specs.Xinghe.{N, P, means, rule}
+use Rattle.units.proofs.Sound.{sound}
 use Rattle.sun.specs.Solstices.{solsticeOf}
 use Rattle.moon.specs.NewMoons.{newMoonOf, lengthOf}
 use Rattle.calendar.specs.Heads.{headOf, headFor}
@@ -20,7 +26,14 @@ use Rattle.anomaly.specs.Corrections.{anomalyAt, correctionAt, moved, corrected
 use Rattle.ephemeris.specs.Jobs.{nodesFor, correctionsFor}
 use Rattle.starred.specs.Cases.{table, All}
 
+-- the rule with the months before a year by a division
+abbrev closed : Rule
+closed = record { before = λ y. (termDay means (12 * y) * N + (N - 1)) / P; holds = termIn means }
+
+is-closed : rule ≡ closed
+is-closed = figured means (sound .moon) (sound .sun)
+
 pub starred : All table
-unfolding between firstFrom any monthCount isLeap leapPlace monthNumber placeOf newMoon newMoonRest instants instantIn yearAt lunationFor solsticeOf newMoonOf lengthOf headOf headFor rowOf rowFor distanceOf eclipseAt eclipseOf noEclipse nodeAt passed sideOf nodesOf sumOf amountOf correctionOn anomalyAt correctionAt moved correctedAt correctionsOf nodesFor correctionsFor
+unfolding between firstFrom any monthCount isLeap leapPlace monthNumber placeOf newMoon newMoonRest termDay termIn chapterRest yearAt lunationFor nameOf solsticeOf newMoonOf lengthOf headOf headFor rowOf rowFor distanceOf eclipseAt eclipseOf noEclipse nodeAt passed sideOf nodesOf sumOf amountOf correctionOn anomalyAt correctionAt moved correctedAt correctionsOf nodesFor correctionsFor
 starred =
-    (refl, ((rw (year-closed 0) refl, refl), (refl, (refl, (refl, (refl, ((rw (year-closed 12511799) refl, refl), (refl, ((refl, refl, refl, refl, refl), ((refl, refl, refl, refl), (refl, ((rw (year-closed 3636238) refl, refl), ((refl, refl, refl, refl, refl), ((refl, refl), tt))))))))))))))
+    (rw is-closed refl, ((rw (is-closed, year-closed 0, is-closed) refl, refl), (rw is-closed refl, (rw is-closed refl, (rw is-closed refl, (rw is-closed refl, (rw is-closed refl, (rw is-closed refl, ((rw (is-closed, year-closed 12511799, is-closed) refl, refl), (refl, (rw is-closed (refl, refl, refl, refl, refl), (rw is-closed (refl, refl, refl, refl), ((rw is-closed refl, refl, rw is-closed refl), (rw is-closed refl, ((rw (is-closed, year-closed 3636238, is-closed) refl, refl), ((rw (is-closed, year-closed 3636245, is-closed) refl, refl), ((rw (is-closed, year-closed 3636246, is-closed) refl, refl), (rw is-closed (refl, refl, refl, refl, refl), (rw is-closed (refl, refl), (rw is-closed refl, tt))))))))))))))))))))

@@ -1,14 +1,19 @@
--- 01, "Cases at the edges": the cases marked *, as one table. What each says is `Holds`; proofs/Starred.antt shows that all do.
+-- 01, "Cases at the edges": the cases marked *, as 02 moved them (§3: the day of the sixty is one more; §4: Xinghe 2's leap place is 7), and
+-- what §4 says, as one table. What each says is `Holds`; proofs/Starred.antt shows that all do.
 -- Assumes nothing.
 use mathlib.Core.Path.{_≡_}
 use mathlib.Core.Bool.{Bool, true, false}
 use mathlib.Core.List.{List, [], _∷_}
-use Prim.Native.Nat.{ℕ}
+use Prim.Native.Nat.{ℕ, _+_, _-_, _*_}
+use lib.Dec.{ltb}
 use lib.IntN.{ℤ, pos}
-use Rattle.units.specs.Units.{sexagenaryOf}
+use Rattle.reckoning.specs.Means.{termDay}
+use Rattle.lunisolar.specs.Sixty.{sexagenaryOf}
+use Rattle.units.specs.Xinghe.{N, D, P, means}
 use Rattle.moon.specs.NewMoons.{lengthOf}
 use Rattle.calendar.specs.Heads.{yearHead}
 use Rattle.calendar.specs.Rows.{monthRow}
+use Rattle.calendar.specs.Answers.{rowValues}
 use Rattle.calendar.specs.declared.HeadAnswer.{HeadAnswer}
 use Rattle.calendar.specs.declared.RowAnswer.{RowAnswer}
 use Rattle.node.specs.declared.Side.{Side}
@@ -28,6 +33,8 @@ pub data Case : Type 0 where
   fullNode : (year place degrees remainder half : ℕ) (marked : Bool) (size : ℕ) → Case
   -- a year and a place: the new moon's anomaly day and rest, its correction, and the day and remainder to which it is corrected
   correction : (year place anomaly rest : ℕ) (correction : ℤ) (day remainder : ℕ) → Case
+  -- a year, a place and a middle term of the year: the day on which that month begins and the term falls, the term earlier
+  meeting : (year place term day : ℕ) → Case
 
 abbrev pub Holds : Case → Type 0
 Holds (head n b r m l d s) =
@@ -51,6 +58,10 @@ Holds (correction n p a x c d r) =
     (correctionsNumber (correctionsAt n p) ≡ 0)
     × (correctionsValues (correctionsAt n p) .new ≡
     record { anomaly = record { day = a; rest = record { parts = x }; half = 0 }; correction = c; day = d; remainder = record { parts = r }; half = 0 })
+Holds (meeting n p k d) =
+    (rowValues (monthRow n p) .day ≡ d)
+    × (termDay means (12 * (n - 1) + k) ≡ d)
+    × (ltb ((12 * (n - 1) + k) * P * N) (rowValues (monthRow n p) .lunation * P * (12 * D)) ≡ true)
 
 abbrev pub table : List Case
 table =
@@ -60,6 +71,9 @@ table =
     ∷ head 2 12 207 12 0 365 4117
     ∷ head 3 24 414 13 9 730 8234
     ∷ head 4 37 59 12 0 1095 12351
+    -- years 19 and 20: the leap remainder 354 has thirteen months and 561 has twelve (02 §4)
+    ∷ head 19 222 354 13 12 6574 6666
+    ∷ head 20 235 561 12 0 6939 10783
     -- the last year, and its last month, which one part less would make 29 days
     ∷ head 1011600 12511787 355 13 12 369480654 12743
     ∷ row 1011600 12 12511799 10 true 369480990 31 97883 30
@@ -67,11 +81,17 @@ table =
     -- month 0 stands at the node, and its full moon exactly at P/2
     ∷ newNode 1 0 0 0 Side.AtNode true 15
     ∷ fullNode 1 0 14 159588 1 true 1
-    -- Xinghe 2
-    ∷ head 293997 3636238 440 13 8 107380330 2132
+    -- Xinghe 2: the new moon of place 8 and the Great Heat (大暑), middle term 7, fall on one day (02 §4), so that place 7 is leap
+    ∷ meeting 293997 8 7 107380543
+    ∷ head 293997 3636238 440 13 7 107380330 2132
     ∷ row 293997 0 3636238 11 false 107380307 48 1336 29
+    -- its leap month is a leap fifth
+    ∷ row 293997 7 3636245 5 true 107380513 14 150275 30
+    ∷ row 293997 8 3636246 6 false 107380543 44 52392 29
     ∷ newNode 293997 0 136 125572 Side.Inside false 0
     ∷ correction 293997 0 14 188982 (pos 2124) 107380306 207742
+    -- year 294,000: leap place 3, where rounding by the leap remainder gives 4
+    ∷ head 294000 3636275 499 13 3 107381425 14483
     ∷ []
 
 abbrev pub All : List Case → Type 0

@@ -39,14 +39,14 @@ pub fn fed_row(digest: Digest, row: MonthRow) -> Digest {
         .feed(row.number)
         .feed(mark(row.leap))
         .feed(row.day)
-        .feed(units::sexagenary(row.day))
+        .feed(lunisolar::sixty::sexagenary(row.day))
         .feed(remainder.parts)
         .feed(row.length)
 }
 
 // The stem and branch of a day, by the lent names.
 pub fn fed_label(digest: Digest, day: u64, ganzhi: &[u8]) -> Digest {
-    let name = names::label(units::sexagenary(day), &ganzhi[0..0], ganzhi);
+    let name = names::label(lunisolar::sixty::sexagenary(day), &ganzhi[0..0], ganzhi);
     let mut fed = digest;
     let mut i = 0;
     while i < name.len() {

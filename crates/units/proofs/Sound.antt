@@ -1,22 +1,37 @@
--- The Xinghe's constants are sound, so every law over sound constants holds of it.
+-- The Xinghe's constants are sound, so every law over sound constants holds of it; and its chapter comes out even.
 -- Assumes nothing.
 use mathlib.Core.Path.{refl}
 use lib.Dec.{lit<, lit≤}
+use Rattle.reckoning.specs.Means.{MonthBound, YearBound, newMoon, termDay}
+use Rattle.reckoning.specs.Chapters.{ChapterBound}
 use Rattle.reckoning.proofs.Laws.{Laws}
+use Rattle.reckoning.proofs.Days.{day-before}
 use Rattle.lunisolar.specs.Calendars.{Sound}
 use Rattle.lunisolar.proofs.Laws.{lawsOf}
-use Rattle.units.specs.Xinghe.{xinghe, rule}
+use Rattle.units.specs.Xinghe.{xinghe, means, rule, roundYears, chapterMonths, chapterYears}
+
+moon : MonthBound means
+moon = record { den = lit< tt; num = lit< tt; short = lit≤ tt; long = lit≤ tt }
+
+sun : YearBound means
+sun = record { den = lit< tt; short = lit≤ tt; long = lit≤ tt }
 
 pub sound : Sound xinghe
+unfolding newMoon termDay
 sound =
     record {
-      moon = record { den = lit< tt; num = lit< tt; short = lit≤ tt; long = lit≤ tt };
-      rule = record { years-pos = lit< tt; den = lit< tt; low = lit< tt; high = lit≤ tt; even = refl };
+      moon = moon;
+      sun = sun;
       month = lit< tt;
-      lunations = lit< tt;
+      year = lit< tt;
       first = lit≤ tt;
       years = lit< tt;
+      lunations = day-before means moon sun roundYears;
+      days = refl;
     }
 
 pub laws : Laws rule
 laws = lawsOf xinghe sound
+
+pub chapter : ChapterBound means chapterMonths chapterYears
+chapter = record { pos = lit< tt; even = refl }

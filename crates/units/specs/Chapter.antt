@@ -1,15 +1,24 @@
--- The printed chapter (02 §2).
+-- The chapter (章) of the Xinghe, as it is printed (02 §2).
 -- Assumes nothing.
 use mathlib.Core.List.{List}
-use Prim.Native.Nat.{ℕ, _*_, _/_}
+use Prim.Native.Nat.{ℕ}
 use Rattle.reckoning.specs.Search.{listFrom}
+use Rattle.reckoning.specs.Chapters.{chapterBefore, chapterRest}
 use Rattle.units.specs.Xinghe.{chapterMonths, chapterYears, rule}
 use Rattle.units.specs.declared.chapter.MonthsBefore.{MonthsBefore}
 
--- the months before each of the 562 years of a chapter (章): floor(6951·j/562) for j from 0 to 561
-unfoldable pub chapterTable : List ℕ
-chapterTable = listFrom (λ j. j * chapterMonths / chapterYears) 0 chapterYears
+-- the months before the year with y years past, as the chapter gives them (積月): floor(6951·y/562)
+abbrev pub byChapter : ℕ → ℕ
+byChapter y = chapterBefore chapterMonths chapterYears y
 
--- the months before two years
+-- the leap remainder (閏餘) of that year: 6951·y mod 562. It does not decide the month count (02 §4)
+abbrev pub leapRemainder : ℕ → ℕ
+leapRemainder y = chapterRest chapterMonths chapterYears y
+
+-- the months before each of the 562 years of a chapter, as the chapter gives them
+unfoldable pub chapterTable : List ℕ
+chapterTable = listFrom byChapter 0 chapterYears
+
+-- the months before the years with y and z years past, by the calendar's rule: the chapter's or one more
 abbrev pub monthsBefore : ℕ → ℕ → MonthsBefore
 monthsBefore y z = record { first = rule .before y; second = rule .before z }

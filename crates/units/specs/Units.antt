@@ -1,6 +1,6 @@
 -- The units (01, "Numbers that everything stands on"): a remainder over N and a remainder over D are carried each by its own function.
 -- Assumes nothing.
-use Prim.Native.Nat.{ℕ, suc, _+_, _/_, _%_}
+use Prim.Native.Nat.{ℕ, _+_, _/_, _%_}
 use Rattle.units.specs.Xinghe.{N, D}
 use Rattle.units.specs.declared.remainder.DayRemainder.{DayRemainder}
 use Rattle.units.specs.declared.remainder.DegreeRemainder.{DegreeRemainder}
@@ -14,11 +14,3 @@ dayCarry r parts = record { whole = (r .parts + parts) / N; remainder = record {
 -- parts over D added to a remainder over D: each whole D is a day
 abbrev pub degreeCarry : DegreeRemainder → ℕ → DegreeCarry
 degreeCarry r parts = record { whole = (r .parts + parts) / D; remainder = record { parts = (r .parts + parts) % D } }
-
--- the days of a round of day names (六十甲子)
-abbrev pub sixty : ℕ
-sixty = 60
-
--- the day of the sixty (02 §3; one more than the 大餘): day 0 is jiazi, which is numbered 1, and so on to 60
-abbrev pub sexagenaryOf : ℕ → ℕ
-sexagenaryOf day = suc (day % sixty)

@@ -30,12 +30,9 @@ T = 5745941
 abbrev pub C : ℕ
 C = 7513
 
--- a chapter: its years (章歲), leap months (章閏) and months (章月)
+-- a chapter: its years (章歲) and months (章月)
 abbrev pub chapterYears : ℕ
 chapterYears = 562
-
-abbrev pub chapterLeaps : ℕ
-chapterLeaps = 207
 
 abbrev pub chapterMonths : ℕ
 chapterMonths = 6951
@@ -67,7 +64,7 @@ monthlyParts = 110647
 
 abbrev pub xinghe : Constants
 xinghe =
-    record { year = P; degree = D; month = P; day = N; chapter = chapterYears; lunations = chapterMonths; first = 1; years = roundYears }
+    record { year = P; degree = D; month = P; day = N; first = 1; years = roundYears; lunations = roundMonths; days = roundDays }
 
 -- the year is P/D days, the month P/N days
 abbrev pub means : Means

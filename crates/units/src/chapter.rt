@@ -3,7 +3,7 @@ use crate::Xinghe;
 ghost use mathlib.Core.Path.{_≡_};
 ghost use Prim.Native.Nat.{_≤_};
 ghost use Rattle.units.specs.Xinghe.{rule};
-ghost use Rattle.units.specs.Chapter.{chapterTable, monthsBefore};
+ghost use Rattle.units.specs.Chapter.{chapterTable, byChapter, monthsBefore};
 
 // The months before each year of a chapter.
 type Entries = [u16; 562];
@@ -14,18 +14,36 @@ pub struct MonthsBefore {
     pub second: u64,
 }
 
-// The months before year y: those of the whole chapters before it, and the table's entry for its year of the chapter.
-fn months_by(table: &Entries, y: u64) -> u64
+// The months before year y as the chapter gives them: those of the whole chapters before it, and the table's entry for its year of the
+// chapter.
+fn chapter_months(table: &Entries, y: u64) -> u64
     requires { ⌜ (now table ≡ chapterTable) × (y ≤ 1048576) ⌝ }
-    ensures { λ r. ⌜ r ≡ rule .before y ⌝ }
+    ensures { λ r. ⌜ r ≡ byChapter y ⌝ }
 {
     let j = (y % Xinghe::CHAPTER) as usize;
     y / Xinghe::CHAPTER * Xinghe::LUNATIONS + table[j] as u64
 }
 
-// The months before years y and z. This is the one look at the table: a constant array is laid out on the stack wherever it is read, so two
-// years that are wanted together, as a year and the next, or the years of two rows, are read from one layout.
-pub fn months_before(y: u64, z: u64) -> MonthsBefore
+// The months before year y, from the printed chapter.
+fn months_by(table: &Entries, y: u64) -> u64
+    requires { ⌜ (now table ≡ chapterTable) × (y ≤ 1048576) ⌝ }
+    ensures { λ r. ⌜ r ≡ rule .before y ⌝ }
+{
+    lunisolar::rule::months_from(Xinghe::constants(), y, chapter_months(table, y))
+}
+
+// The months before year y. A constant array is laid out on the stack wherever it is read: this and the next function are the two looks at
+// the table, and no job takes more than one.
+pub fn months_before(y: u64) -> u64
+    requires { ⌜ y ≤ 1048576 ⌝ }
+    ensures { λ r. ⌜ r ≡ rule .before y ⌝ }
+{
+    let table = chapter_table();
+    months_by(&table, y)
+}
+
+// The months before years y and z, as the years of two rows, from one layout.
+pub fn months_before_both(y: u64, z: u64) -> MonthsBefore
     requires { ⌜ (y ≤ 1048576) × (z ≤ 1048576) ⌝ }
     ensures { λ r. ⌜ r ≡ monthsBefore y z ⌝ }
 {

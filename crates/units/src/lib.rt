@@ -1,16 +1,15 @@
-// The Xinghe calendar's numbers, by name, its printed chapter, and its units: remainders over N and over D, and the day of the sixty.
+// The Xinghe calendar's numbers, by name, its printed chapter, and its units: remainders over N and over D.
 use lunisolar::Constants;
 use lunisolar::LunationAnswer;
 use lunisolar::YearAnswer;
-use lunisolar::YearMonths;
 ghost use mathlib.Core.Path.{_≡_};
 ghost use Prim.Native.Nat.{_≤_, _<_};
-ghost use Rattle.reckoning.specs.Rule.{leapPlace, yearOf};
+ghost use Rattle.reckoning.specs.Rule.{monthCount, leapPlace, yearOf};
 ghost use Rattle.reckoning.specs.Means.{newMoon};
 ghost use Rattle.reckoning.specs.Dates.{monthOf};
-ghost use Rattle.lunisolar.specs.Calendars.{yearAt, yearMonths, lunationAt, leapRemainder};
+ghost use Rattle.lunisolar.specs.Calendars.{yearAt, lunationAt};
 ghost use Rattle.units.specs.Xinghe.{xinghe, means, rule};
-ghost use Rattle.units.specs.Units.{sexagenaryOf};
+ghost use Rattle.units.specs.Chapter.{leapRemainder};
 
 pub mod chapter;
 pub mod remainder;
@@ -62,10 +61,10 @@ impl Xinghe {
             degree: Xinghe::D,
             month: Xinghe::P,
             day: Xinghe::N,
-            chapter: Xinghe::CHAPTER,
-            lunations: Xinghe::LUNATIONS,
             first: 1,
             years: Xinghe::YEARS,
+            lunations: Xinghe::MONTHS,
+            days: Xinghe::DAYS,
         }
     }
 
@@ -76,34 +75,33 @@ impl Xinghe {
         lunisolar::year_at(Xinghe::constants(), year)
     }
 
-    // The months before a year, counted from 0, and until the next.
-    pub fn year_months(y: u64) -> YearMonths
-        requires { ⌜ y < 1048576 ⌝ }
-        ensures { λ r. ⌜ r ≡ yearMonths xinghe y ⌝ }
-    {
-        let both = chapter::months_before(y, y + 1);
-        YearMonths {
-            before: both.first,
-            until: both.second,
-        }
-    }
-
     // The month of the round at a place of a year.
     pub fn lunation_at(year: u64, place: u64) -> LunationAnswer
         ensures { λ r. ⌜ r ≡ lunationAt xinghe year place ⌝ }
     {
         match Xinghe::year_at(year) {
-            YearAnswer::Past(y) => lunisolar::lunation_in(Xinghe::year_months(y), place),
+            YearAnswer::Past(y) => {
+                let before = chapter::months_before(y);
+                lunisolar::lunation_in(Xinghe::constants(), y, before, place)
+            }
             YearAnswer::Refused(e) => LunationAnswer::Refused(e),
         }
     }
 
-    // Of a year, counted from 0, with the months before it: its leap remainder and its leap place.
-    pub fn leap_remainder(y: u64, before: u64) -> u64
-        requires { ⌜ (y ≤ 1048576) × (before ≡ rule .before y) ⌝ }
-        ensures { λ r. ⌜ r ≡ leapRemainder xinghe y ⌝ }
+    // The leap remainder of a year, counted from 0.
+    pub fn leap_remainder(y: u64) -> u64
+        requires { ⌜ y < 1048576 ⌝ }
+        ensures { λ r. ⌜ r ≡ leapRemainder y ⌝ }
     {
-        lunisolar::rule::leap_remainder(Xinghe::constants(), y, before)
+        y * Xinghe::LUNATIONS % Xinghe::CHAPTER
+    }
+
+    // The month count and the leap place of a year, counted from 0, from the months before it.
+    pub fn month_count(y: u64, before: u64) -> u64
+        requires { ⌜ (y < 1048576) × (before ≡ rule .before y) ⌝ }
+        ensures { λ r. ⌜ r ≡ monthCount rule y ⌝ }
+    {
+        lunisolar::rule::month_count(Xinghe::constants(), y, before)
     }
 
     pub fn leap_place(y: u64, before: u64) -> u64
@@ -125,16 +123,6 @@ impl Xinghe {
         requires { ⌜ day ≤ 1073741824 ⌝ }
         ensures { λ r. ⌜ r ≡ monthOf (newMoon means) day ⌝ }
     {
-        lunisolar::month_of_day(Xinghe::constants(), day)
+        lunisolar::means::month_of_day(Xinghe::constants(), day)
     }
-}
-
-// The days of a round of day names (六十甲子).
-pub const SIXTY: u64 = 60;
-
-// The day of the sixty, from 1.
-pub fn sexagenary(day: u64) -> u64
-    ensures { λ r. ⌜ r ≡ sexagenaryOf day ⌝ }
-{
-    day % SIXTY + 1
 }

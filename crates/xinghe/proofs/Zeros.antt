@@ -2,7 +2,8 @@
 -- Assumes nothing.
 use mathlib.Core.Path.{_≡_, refl}
 use lib.ListN.{replicate}
-use Rattle.calendar.specs.Answers.{zeroHead, zeroRow, zeroDay, zeroDate}
+use Rattle.calendar.specs.Answers.{zeroHead, zeroRow}
+use Rattle.lunisolar.specs.Answers.{zeroDay, zeroDate}
 use Rattle.ephemeris.specs.Answers.{zeroPhases, zeroNodes, zeroCorrections, zeroPoint}
 use Rattle.refusal.specs.declared.Refusal.{Refusal}
 use Rattle.names.specs.declared.LocationAnswer.{LocationAnswer}

@@ -7,8 +7,8 @@ use Rattle.names.specs.Names.{whoseNumber}
 use Rattle.names.specs.declared.LocationAnswer.{LocationAnswer}
 use Rattle.calendar.specs.declared.YearHead.{YearHead}
 use Rattle.calendar.specs.declared.MonthRow.{MonthRow}
-use Rattle.calendar.specs.declared.Day.{Day}
-use Rattle.calendar.specs.declared.Date.{Date}
+use Rattle.lunisolar.specs.declared.dates.Day.{Day}
+use Rattle.lunisolar.specs.declared.dates.Date.{Date}
 use Rattle.moon.specs.declared.phases.Phases.{Phases}
 use Rattle.node.specs.Sides.{sideNumber}
 use Rattle.node.specs.declared.Nodes.{Nodes}

@@ -1,9 +1,9 @@
 // The values of each answer as the numbers that are written to the lent array, in the order of include/xinghe.h.
 use anomaly::Corrections;
-use calendar::Date;
-use calendar::Day;
 use calendar::MonthRow;
 use calendar::YearHead;
+use lunisolar::dates::Date;
+use lunisolar::dates::Day;
 use moon::phases::Phases;
 use names::LocationAnswer;
 use node::Nodes;

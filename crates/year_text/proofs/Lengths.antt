@@ -7,7 +7,7 @@ use native.Mathlib.Numerals.{add-one}
 use native.Mathlib.Omega.{arith}
 use lib.ListN.{length, take, getD, length-append}
 use lib.Seq.{take-suc}
-use Rattle.units.specs.Units.{sexagenaryOf}
+use Rattle.lunisolar.specs.Sixty.{sexagenaryOf}
 use Rattle.calendar.specs.declared.YearHead.{YearHead}
 use Rattle.calendar.specs.declared.MonthRow.{MonthRow}
 use Rattle.year_text.specs.Decimal.{decimal}

@@ -6,7 +6,7 @@ use mathlib.Core.List.{List, [], _∷_, _++_}
 use Prim.Native.Nat.{ℕ}
 use Rattle.reckoning.specs.Search.{pick}
 use Rattle.refusal.specs.Numbers.{numberOf}
-use Rattle.units.specs.Units.{sexagenaryOf}
+use Rattle.lunisolar.specs.Sixty.{sexagenaryOf}
 use Rattle.calendar.specs.Heads.{yearHead}
 use Rattle.calendar.specs.declared.YearHead.{YearHead}
 use Rattle.calendar.specs.declared.HeadAnswer.{HeadAnswer}

@@ -103,7 +103,7 @@ fn put_moon(out: &mut [u8], at: usize, row: MonthRow) -> usize
     ensures { λ r. ⌜ Wrote (now (out .entry)) (now (out .exit)) at r (moonText row) ⌝ }
 {
     let remainder = row.remainder;
-    let a = put_field(out, at, units::sexagenary(row.day), 32);
+    let a = put_field(out, at, lunisolar::sixty::sexagenary(row.day), 32);
     let b = put_field(out, a, remainder.parts, 32);
     put_field(out, b, row.length, 10)
 }

@@ -49,7 +49,7 @@ impl Random {
     fn month(&mut self) -> (u64, u64) {
         let year = self.year();
         let mut head = [0; 6];
-        assert_eq!(fast::year_head(year, &mut head), 0);
+        assert_eq!(fast::year_head::<fast::Division>(year, &mut head), 0);
         (year, self.below(head[2]))
     }
 

@@ -21,45 +21,52 @@ type End = ([u64; 8], [u64; 3]);
 type Stages = ([u64; 1], [[u64; 10]; 14]);
 
 /// The jobs that stand on the months before a year, by one way to them in Rust.
-fn rows_and_dates<B: MonthsBefore>(inputs: &Inputs, names: [&'static str; 6]) -> [Line; 6] {
+fn years_and_dates<B: MonthsBefore>(inputs: &Inputs, names: [&'static str; 7]) -> [Line; 7] {
     [
         measure(
             names[0],
+            &inputs.years,
+            [0; 6],
+            |&year, out| raw::xinghe_year_head(year, out),
+            |&year, out| fast::year_head::<B>(year, out),
+        ),
+        measure(
+            names[1],
             &inputs.months,
             [0; 8],
             |&(year, place), out| raw::xinghe_month_row(year, place, out),
             |&(year, place), out| fast::month_row::<B>(year, place, out),
         ),
         measure(
-            names[1],
+            names[2],
             &inputs.dates,
             [0; 2],
             |&(year, place, day), out| raw::xinghe_day_of_date(year, place, day, out),
             |&(year, place, day), out| fast::day_of_date::<B>(year, place, day, out),
         ),
         measure(
-            names[2],
+            names[3],
             &inputs.days,
             [0; 3],
             |&number, out| raw::xinghe_date_of_day(number, out),
             |&number, out| fast::date_of_day::<B>(number, out),
         ),
         measure(
-            names[3],
+            names[4],
             &inputs.carries,
             [0; 8],
             |(row, count), out| raw::xinghe_carry(row, *count, out),
             |(row, count), out| fast::carry::<B>(row, *count, out),
         ),
         measure(
-            names[4],
+            names[5],
             &inputs.walks,
             ([0; 8], [0; 3]),
             library_walk,
             |(row, counts), end: &mut End| fast::walk::<B>(row, counts, &mut end.0, &mut end.1),
         ),
         measure(
-            names[5],
+            names[6],
             &inputs.years,
             [0; 13 * 8],
             // SAFETY: pointer and length are those of an array.
@@ -69,7 +76,8 @@ fn rows_and_dates<B: MonthsBefore>(inputs: &Inputs, names: [&'static str; 6]) ->
     ]
 }
 
-const BY_DIVISION: [&str; 6] = [
+const BY_DIVISION: [&str; 7] = [
+    "head of a year",
     "row of a month",
     "date to day",
     "day to date",
@@ -78,8 +86,9 @@ const BY_DIVISION: [&str; 6] = [
     "a year's list",
 ];
 
-const BY_TABLE: [&str; 6] = [
-    "row of a month, in Rust too from a table",
+const BY_TABLE: [&str; 7] = [
+    "head of a year, in Rust too from a table",
+    "row of a month, from a table",
     "date to day, from a table",
     "day to date, from a table",
     "carry, from a table",
@@ -187,10 +196,10 @@ fn main() {
     let inputs = Inputs::new();
     println!("| job | library, ns per call | Rust, ns per call | library / Rust |");
     println!("|---|---|---|---|");
-    for line in rows_and_dates::<Division>(&inputs, BY_DIVISION) {
+    for line in years_and_dates::<Division>(&inputs, BY_DIVISION) {
         line.print();
     }
-    for line in rows_and_dates::<Table>(&inputs, BY_TABLE) {
+    for line in years_and_dates::<Table>(&inputs, BY_TABLE) {
         line.print();
     }
     cuts(&inputs).print();

@@ -60,7 +60,7 @@ fn by_library() -> Sums {
 
 fn by_rust() -> Sums {
     survey(
-        |year, out| fast::year_head(year, out),
+        |year, out| fast::year_head::<fast::Division>(year, out),
         |year, place, out| fast::month_row::<fast::Division>(year, place, out),
         |year, place, out| fast::phases(year, place, out),
         |year, place, out| fast::nodes(year, place, out),

@@ -18,7 +18,7 @@ fn numbered<const LENGTH: usize>(answer: xinghe::Answer<[u64; LENGTH]>) -> (u64,
 }
 
 fn some_row() -> Row {
-    xinghe::month_row(293_997, 8).expect("a leap month")
+    xinghe::month_row(293_997, 7).expect("a leap month")
 }
 
 /// The row itself, with each field changed, and of no month.
@@ -100,6 +100,9 @@ fn years_places_and_days() {
 
 fn years_places_and_days_by<B: MonthsBefore>() {
     for year in YEARS {
+        let mut head = [OTHER; 6];
+        let number = fast::year_head::<B>(year, &mut head);
+        assert_eq!((number, head), numbered(xinghe::year_head(year)));
         for place in PLACES {
             let mut row = [OTHER; 8];
             let number = fast::month_row::<B>(year, place, &mut row);

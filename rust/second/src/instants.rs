@@ -123,15 +123,4 @@ impl SunPoint {
             rest,
         }
     }
-
-    /// Whether this middle term comes before the new moon. Equal instants do
-    /// not: such a term belongs to the month that the new moon begins.
-    pub fn is_before(self, moon: NewMoon) -> bool {
-        if self.day != moon.day {
-            return self.day < moon.day;
-        }
-        // The remainders are over different divisors, 12 D and N.
-        let twelfths = Cut::MIDDLE_TERMS.points;
-        (self.remainder * twelfths + self.rest) * N < moon.remainder * (twelfths * D)
-    }
 }

@@ -3,13 +3,13 @@
 //!
 //! Nothing here divides to find where something stands; that is the way of the
 //! program this one is compared with. Days and degrees are added and taken off
-//! with their remainders ([`spans`]), an eclipse's size is counted along the
-//! degree marks, and a correction is made up of doublings. The planets are
-//! walked from conjunction to conjunction; their stages are read from the
-//! printed text ([`stage_text`]), and the days of the sixty are counted on one by
-//! one ([`sixty`]). [`Walker`] yields the round a year at a time,
-//! [`Checkpoints`] finds a single year, month or day quickly by walking on from
-//! a kept state.
+//! with their remainders ([`spans`]), the days of every month are gone through
+//! for a middle term, an eclipse's size is counted along the degree marks, and a
+//! correction is made up of doublings. The planets are walked from conjunction to
+//! conjunction; their stages are read from the printed text ([`stage_text`]), and
+//! the days of the sixty are counted on one by one ([`sixty`]). [`Walker`] yields
+//! the round a year at a time, [`Checkpoints`] finds a single year, month or day
+//! quickly by walking on from a kept state.
 
 pub mod anomaly;
 pub mod ask;

@@ -1,5 +1,7 @@
 //! The walk through the round, a year at a time.
 
+use std::ops::Range;
+
 use crate::anomaly::{AnomalyWalk, Correction};
 use crate::instants::{Cut, NewMoon, Phase, SunPoint};
 use crate::nodes::{FullMoonNode, NewMoonNode, NodeWalk};
@@ -8,6 +10,7 @@ use crate::numbers::{
 };
 use crate::planets::{Conjunctions, Planet, PlanetWalk};
 use crate::sixty;
+use crate::spans::carried;
 
 /// The month row of the rules paper.
 #[derive(Clone, Copy, Debug, PartialEq, Eq)]
@@ -41,6 +44,7 @@ pub struct Month {
 pub struct Year {
     pub number: u64,
     pub months_before: u64,
+    /// The chapter's rest; the leap month doesn't come from it.
     pub leap_remainder: u64,
     /// Place of the leap month, 0 where there is none.
     pub leap_place: u64,
@@ -100,9 +104,14 @@ impl MoonWalk {
         }
     }
 
-    /// The length is counted to the next new moon; the paper's rule must agree.
+    /// From the new moon's day to the one before the next new moon's.
+    fn days(&self) -> Range<u64> {
+        self.new_moon.day..self.new_moon.next().day
+    }
+
+    /// The days are counted; the paper's rule must agree.
     fn length(&self) -> u64 {
-        let length = self.new_moon.next().day - self.new_moon.day;
+        let length = self.days().count() as u64;
         let long = self.new_moon.remainder >= LONG_FROM;
         assert_eq!(length, if long { 30 } else { 29 });
         length
@@ -141,7 +150,7 @@ struct Name {
 }
 
 impl Name {
-    /// The solstice lies in the first month, so that it is never leap.
+    /// The solstice's day is in the first month, so that it is never leap.
     fn first(year: u64) -> Self {
         Self {
             year,
@@ -174,7 +183,8 @@ pub struct Walker {
     /// Whole eras past, and years of the era at hand.
     eras_past: usize,
     era_years_past: u64,
-    months_before: u64,
+    /// The months before the year as the chapter gives them, and the rest.
+    chapter_months: u64,
     leap_remainder: u64,
     /// The next middle term; at the start of a year its solstice.
     term: SunPoint,
@@ -188,7 +198,7 @@ impl Walker {
             year: 1,
             eras_past: 0,
             era_years_past: 0,
-            months_before: 0,
+            chapter_months: 0,
             leap_remainder: 0,
             term: SunPoint::ORIGIN,
             moon: MoonWalk::ORIGIN,
@@ -224,7 +234,7 @@ impl Walker {
         planets.map(|planet| planet.walk_to(solstice))
     }
 
-    /// Walks on to the month that holds the next year's solstice.
+    /// Walks on to the month that holds the day of the next year's solstice.
     fn walk_months(&mut self) -> Vec<Month> {
         let mut months = Vec::with_capacity(13);
         let mut name = Name::first(self.year);
@@ -248,15 +258,17 @@ impl Walker {
         }
     }
 
-    /// Looks whether the next middle term lies in the month at hand. It must
-    /// not lie before it: then a month would have held two.
+    /// Goes through the days of the month at hand until the next middle term
+    /// falls on one. It must not have fallen before them: then a month would
+    /// have held two.
     fn month_holds_term(&self) -> bool {
-        assert!(!self.term.is_before(self.moon.new_moon));
-        self.term.is_before(self.moon.new_moon.next())
+        let mut days = self.moon.days();
+        assert!(days.start <= self.term.day);
+        days.any(|day| day == self.term.day)
     }
 
-    /// The treatise's yearly addition to the months and the leap remainder, and
-    /// the count of eras.
+    /// The count of eras, and the treatise's yearly addition to the chapter's
+    /// months and rest.
     fn step_year(&mut self) {
         self.year += 1;
         self.era_years_past += 1;
@@ -264,14 +276,23 @@ impl Walker {
             self.eras_past += 1;
             self.era_years_past = 0;
         }
-        self.months_before += 12;
-        self.leap_remainder += CHAPTER_LEAPS;
-        if self.leap_remainder >= CHAPTER_YEARS {
-            self.leap_remainder -= CHAPTER_YEARS;
-            self.months_before += 1;
-        }
-        assert_eq!(self.months_before, self.moon.lunation);
+        let (leap, rest) = carried(self.leap_remainder + CHAPTER_LEAPS, CHAPTER_YEARS);
+        self.chapter_months += 12 + leap;
+        self.leap_remainder = rest;
+        self.assert_near_chapter();
         assert_eq!(self.term.rest, 0, "a solstice is whole over D");
+    }
+
+    /// The chapter counts by instants, up to the new moon last before the
+    /// solstice or together with it. The walk is one month further exactly where
+    /// the new moon after that falls on the solstice's day.
+    fn assert_near_chapter(&self) {
+        let moon = &self.moon;
+        match moon.lunation - self.chapter_months {
+            0 => assert_ne!(moon.new_moon.next().day, self.term.day),
+            1 => assert_eq!(moon.new_moon.day, self.term.day),
+            _ => panic!("the walk and the chapter part"),
+        }
     }
 
     /// After the last year everything but node, anomaly and planets is as at the
@@ -305,7 +326,7 @@ impl Iterator for Walker {
         self.step_year();
         Some(Year {
             number: start.year,
-            months_before: start.months_before,
+            months_before: start.moon.lunation,
             leap_remainder: start.leap_remainder,
             leap_place: leap_place(&months),
             solstice: start.term,

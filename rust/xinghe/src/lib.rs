@@ -49,8 +49,8 @@ fn answer<const LENGTH: usize>(
     }
 }
 
-/// Months before the year, leap remainder, month count, leap place, day of the
-/// winter solstice, its remainder.
+/// Months before the year, leap remainder of the chapter, month count, leap
+/// place, day of the winter solstice, its remainder.
 pub fn year_head(year: u64) -> Answer<[u64; 6]> {
     answer(|out| raw::xinghe_year_head(year, out))
 }

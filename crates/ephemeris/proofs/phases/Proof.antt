@@ -3,7 +3,8 @@ use mathlib.Core.Path.{_≡_, _∙_, sym}
 use Rattle.lunisolar.specs.Calendars.{lunationAt}
 use Rattle.lunisolar.specs.declared.LunationAnswer.{LunationAnswer}
 use Rattle.units.specs.Xinghe.{xinghe}
-use Rattle.calendar.proofs.Round.{lunation-in-round}
+use Rattle.lunisolar.proofs.Rounds.{lunation-in-round}
+use Rattle.units.proofs.Sound.{sound}
 use Rattle.ephemeris.specs.Jobs.{phasesFor}
 use borrow.Author.Needs.{needs}
 use Rattle.ephemeris.proofs.phases.Statement.{statement}
@@ -22,7 +23,7 @@ enum-known-m c = search needs
 phases-of-requires : tie.Need-phases-of-requires
 phases-of-requires c κs =
     let a = c .before .before .before .before .args in
-    omega (arith, lunation-in-round (a .year) (a .place) (c .before .m .given .0 .0) (is-lunation (c .before)))
+    omega (arith, lunation-in-round xinghe sound (a .year) (a .place) (c .before .m .given .0 .0) (is-lunation (c .before)))
 
 enum-known-e : tie.Need-enum-known-e
 enum-known-e c = search needs

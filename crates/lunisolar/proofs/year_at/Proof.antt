@@ -1,4 +1,5 @@
 use native.Mathlib.Omega.{arith}
+use mathlib.Core.Path.{refl}
 use Prim.Native.Nat.{_+_}
 use Rattle.reckoning.proofs.Searches.{below, beyond, inside}
 use Rattle.lunisolar.specs.Calendars.{yearAt}
@@ -15,7 +16,7 @@ returns-2 c = let a = c .before .before .before .before .before .args in rw (bey
 
 returns-3 : tie.Need-returns-3
 unfolding yearAt
-returns-3 c = let a = c .before .before .before .before .before .args in rw (inside (a .k .first) (a .year) (a .k .first + a .k .years) (omega arith) (omega arith))
+returns-3 c = let a = c .before .before .before .before .before .args in rw (inside (a .k .first) (a .year) (a .k .first + a .k .years) (omega arith) (omega arith)) refl
 
 pub year-at-spec : {M : Type 1} → statement M
 year-at-spec = tie.close (tie.spec returns returns-2 returns-3)

@@ -5,7 +5,7 @@ use Prim.Native.Nat.{suc}
 use borrow.Author.Needs.{needs}
 use borrow.Author.Tests.{eq-eqb, ne-eqb}
 use Rattle.reckoning.proofs.Searches.{inside, below, beyond}
-use Rattle.units.specs.Units.{sixty}
+use Rattle.lunisolar.specs.Sixty.{sixty}
 use Rattle.names.specs.Names.{listBytes, inSixty, locationFor}
 use Rattle.names.proofs.label_location.Statement.{statement}
 use Rattle.names.proofs.label_location.Tie as tie

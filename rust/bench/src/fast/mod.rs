@@ -4,7 +4,8 @@
 //! The functions here are those of include/xinghe.h: same arguments, same
 //! number returned, same values written, zeros where they refuse. They are
 //! never inlined, since the library's cannot be; what they are made of is.
-//! Those of rows and dates are made for each way to the months before a year.
+//! Those of heads, rows and dates are made for each way to the months before a
+//! year.
 
 mod anomaly;
 mod chapter;
@@ -37,8 +38,8 @@ fn written<const LENGTH: usize>(
 }
 
 #[inline(never)]
-pub extern "C" fn year_head(year: u64, out: &mut [u64; 6]) -> u64 {
-    written(rows::head(year), out)
+pub extern "C" fn year_head<B: MonthsBefore>(year: u64, out: &mut [u64; 6]) -> u64 {
+    written(rows::head::<B>(year), out)
 }
 
 #[inline(never)]

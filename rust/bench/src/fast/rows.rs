@@ -1,13 +1,11 @@
 //! Years, months and days.
 
-use super::chapter::{self, Division, MonthsBefore};
+use super::chapter::{self, MonthsBefore};
 
 pub const N: u64 = 208_530;
 pub const D: u64 = 16_860;
 pub const P: u64 = 6_158_017;
 
-/// The least leap remainder of a year of 13 months.
-const LEAP_FROM: u64 = 355;
 const LONG_FROM: u64 = 97_883;
 
 /// Days of the sixty are counted from 1.
@@ -17,39 +15,54 @@ pub const ROUND_YEARS: u64 = 1_011_600;
 pub const ROUND_MONTHS: u64 = 12_511_800;
 pub const ROUND_DAYS: u64 = 369_481_020;
 
-/// What the months before a year leave of the chapter's months times the year.
+/// Middle terms lie P parts apart, of which a day has so many.
+const TERM_DAY: u64 = 12 * D;
+
+/// The day of the solstice after so many years.
 #[inline]
-fn leap_remainder(past: u64, before: u64) -> u64 {
-    past * chapter::MONTHS - before * chapter::YEARS
+pub fn solstice(past: u64) -> u64 {
+    past * P / D
 }
 
-/// 0 where there is none.
+/// The month in which a day lies.
+#[inline]
+pub fn month_of(day: u64) -> u64 {
+    (day * N + N - 1) / P
+}
+
+/// Whether a month begins on a day or before it.
+#[inline]
+pub fn begins_by(lunation: u64, day: u64) -> bool {
+    lunation * P < (day + 1) * N
+}
+
+/// What the chapter's division leaves.
+#[inline]
+fn leap_remainder(past: u64) -> u64 {
+    past * chapter::MONTHS % chapter::YEARS
+}
+
+/// The months of a year: twelve, and a thirteenth if the one after it begins by
+/// the next solstice's day.
+#[inline]
+fn months(past: u64, before: u64) -> u64 {
+    12 + u64::from(begins_by(before + 13, solstice(past + 1)))
+}
+
+/// The leap place of a year of thirteen months: the first whose term falls on
+/// the next new moon's day or later. By instants it comes after `last`, which one
+/// division gives. A term gains nine tenths of a day on the new moon from place
+/// to place, so that by days it may also be `last` or the place before.
 #[inline]
 fn leap_place(past: u64, before: u64) -> u64 {
-    let remainder = leap_remainder(past, before);
-    if remainder < LEAP_FROM {
-        0
-    } else {
-        (6_744 - 12 * remainder).div_ceil(207)
-    }
-}
-
-/// The years and the months before a year, and its own months.
-struct Start {
-    past: u64,
-    before: u64,
-    months: u64,
-}
-
-#[inline]
-fn start<B: MonthsBefore>(year: u64) -> Result<Start, u64> {
-    let past = past(year)?;
-    let before = B::months_before(past);
-    Ok(Start {
-        past,
-        before,
-        months: B::months_before(year) - before,
-    })
+    // From the solstice to the next new moon, a month being 562.
+    let gap = chapter::YEARS - leap_remainder(past);
+    let last = (12 * gap - 1) / chapter::LEAPS;
+    let is_behind = |places_back| {
+        let next_day = (before + last + 1 - places_back) * P / N;
+        (12 * past + last - places_back) * P >= next_day * TERM_DAY
+    };
+    last + 1 - u64::from(is_behind(0)) - u64::from(is_behind(1))
 }
 
 /// The years before a year.
@@ -62,29 +75,31 @@ pub fn past(year: u64) -> Result<u64, u64> {
 }
 
 #[inline]
-pub fn head(number: u64) -> Result<[u64; 6], u64> {
-    let Start {
-        past,
-        before,
-        months,
-    } = start::<Division>(number)?;
+pub fn head<B: MonthsBefore>(number: u64) -> Result<[u64; 6], u64> {
+    let past = past(number)?;
+    let before = B::months_before(past);
+    let months = months(past, before);
     Ok([
         before,
-        leap_remainder(past, before),
+        leap_remainder(past),
         months,
-        leap_place(past, before),
-        past * P / D,
+        // Worked out for every year, as a jump would often be guessed wrongly.
+        leap_place(past, before) * (months - 12),
+        solstice(past),
         past * P % D,
     ])
 }
 
 #[inline]
 pub fn lunation<B: MonthsBefore>(number: u64, place: u64) -> Result<u64, u64> {
-    let start = start::<B>(number)?;
-    if place >= start.months {
-        return Err(2);
+    let past = past(number)?;
+    let before = B::months_before(past);
+    // The thirteenth month is seldom asked for, and only then looked for.
+    if place < 12 || place == 12 && months(past, before) == 13 {
+        Ok(before + place)
+    } else {
+        Err(2)
     }
-    Ok(start.before + place)
 }
 
 #[inline]
@@ -94,22 +109,23 @@ fn length(remainder: u64) -> u64 {
 
 #[inline]
 pub fn row_at(past: u64, place: u64, lunation: u64) -> [u64; 8] {
-    named_row(past, place, lunation, leap_place(past, lunation - place))
-}
-
-#[inline]
-fn named_row(past: u64, place: u64, lunation: u64, leap: u64) -> [u64; 8] {
-    let counted = place - u64::from(leap != 0 && place >= leap);
-    let remainder = lunation * P % N;
+    let (day, remainder) = (lunation * P / N, lunation * P % N);
+    let length = length(remainder);
+    let term = (12 * past + place) * P;
+    // From the leap month on, a place's term falls after its month; the leap
+    // month comes after the term before, too. Both are worked out for every
+    // month, as a jump would often be guessed wrongly.
+    let behind = term >= (day + length) * TERM_DAY;
+    let leap = behind & (term < day * TERM_DAY + P);
     [
         lunation,
         past + 1,
         place,
-        (counted + 10) % 12 + 1,
-        u64::from(leap != 0 && place == leap),
-        lunation * P / N,
+        (place + 10 - u64::from(behind)) % 12 + 1,
+        u64::from(leap),
+        day,
         remainder,
-        length(remainder),
+        length,
     ]
 }
 
@@ -120,15 +136,18 @@ pub fn row_of<B: MonthsBefore>(lunation: u64) -> [u64; 8] {
     row_at(past, lunation - B::months_before(past), lunation)
 }
 
-/// The years before that of a month.
+/// The years before that of a month, the last whose solstice falls on a day
+/// before the next month's first.
 #[inline]
 fn past_of(lunation: u64) -> u64 {
-    (chapter::YEARS * lunation + chapter::YEARS - 1) / chapter::MONTHS
+    let next_day = (lunation + 1) * P / N;
+    (next_day * D - 1) / P
 }
 
 #[inline]
 pub fn is_genuine<B: MonthsBefore>(row: &[u64; 8]) -> bool {
-    row[0] < ROUND_MONTHS && *row == row_of::<B>(row[0])
+    // Field by field: two arrays would be compared by a call of the C library.
+    row[0] < ROUND_MONTHS && row.iter().eq(&row_of::<B>(row[0]))
 }
 
 /// The month of the round so many months on.
@@ -162,7 +181,7 @@ pub fn date<B: MonthsBefore>(number: u64) -> Result<[u64; 3], u64> {
     if number >= ROUND_DAYS {
         return Err(7);
     }
-    let lunation = (number * N + N - 1) / P;
+    let lunation = month_of(number);
     let past = past_of(lunation);
     let place = lunation - B::months_before(past);
     Ok([past + 1, place, number - lunation * P / N + 1])
@@ -203,21 +222,42 @@ fn point<const CUT: u64>(past: u64, index: u64) -> [u64; 3] {
 
 #[inline]
 pub fn fill<B: MonthsBefore>(number: u64, out: &mut [u64]) -> u64 {
-    let Start {
-        past,
-        before,
-        months,
-    } = match start::<B>(number) {
-        Ok(start) => start,
+    let past = match past(number) {
+        Ok(past) => past,
         Err(number) => return number,
     };
+    let before = B::months_before(past);
     let (rows, _) = out.as_chunks_mut();
+    let months = months(past, before);
     let Some(rows) = rows.get_mut(..months as usize) else {
         return 6;
     };
-    let leap = leap_place(past, before);
-    for (place, row) in (0..).zip(rows) {
-        *row = named_row(past, place, before + place, leap);
+    // With a loop for each, the numbers in a year of twelve months are constants.
+    if months == 12 {
+        step_rows::<12>(rows, past, before, 13);
+    } else {
+        step_rows::<13>(rows, past, before, leap_place(past, before));
     }
     0
+}
+
+/// The monthly addition, from row to row.
+#[inline(always)]
+fn step_rows<const COUNT: u64>(rows: &mut [[u64; 8]], past: u64, before: u64, leap: u64) {
+    let (mut day, mut remainder) = (before * P / N, before * P % N);
+    for (place, row) in (0..COUNT).zip(rows) {
+        let length = length(remainder);
+        *row = [
+            before + place,
+            past + 1,
+            place,
+            (place + 10 - u64::from(place >= leap)) % 12 + 1,
+            u64::from(place == leap),
+            day,
+            remainder,
+            length,
+        ];
+        day += length;
+        remainder = remainder + P - length * N;
+    }
 }

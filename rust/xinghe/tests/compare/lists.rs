@@ -14,7 +14,7 @@ const LONGEST: usize = 8 * 13 + 20;
 fn years_in_lists_of_every_length() {
     let mut random = Random::new(11);
     let mut tally = Tally::new("year lists");
-    let edges = [1, 2, 3, 4, LAST_YEAR - 1, LAST_YEAR];
+    let edges = [1, 2, 3, 4, 19, 20, LAST_YEAR - 1, LAST_YEAR];
     let drawn = (0..500).map(|_| 1 + random.below(LAST_YEAR));
     for number in edges.into_iter().chain(drawn) {
         let year = ask::year(number).expect("a year of the round");

@@ -7,7 +7,8 @@ use crate::expected;
 use crate::tally::Tally;
 
 /// Cuts, days and steps are compared in one of so many years, to keep the test
-/// quick. It is prime to the chapter, so that years of every kind come up.
+/// quick. It is prime to the 16,860 years after which new moons and solstices
+/// fall as before, so that years of every kind come up.
 const SPARSE: u64 = 7;
 
 #[test]

@@ -1,28 +1,55 @@
-use Prim.Native.Nat.{_-_}
+use Prim.Native.Nat.{_+_, _-_}
 use native.Mathlib.Omega.{arith}
-use mathlib.Core.Path.{ap, _∙_}
+use mathlib.Core.Path.{ap, sym, _∙_}
+use Rattle.lunisolar.specs.Calendars.{Stands}
+use Rattle.lunisolar.specs.Names.{nameOf}
+use Rattle.lunisolar.proofs.Rounds.{in-round}
+use Rattle.units.specs.Xinghe.{xinghe}
+use Rattle.units.proofs.Sound.{sound}
 use Rattle.calendar.specs.declared.RowAnswer.{RowAnswer}
-use Rattle.calendar.proofs.Round.{in-round, head-found, head-leap, head-stands, head-row}
+use Rattle.calendar.proofs.Round.{head-found, head-leap, head-stands, head-row}
+use borrow.Author.Needs.{needs}
 use Rattle.calendar.proofs.rows.row_under.Statement.{statement}
 use Rattle.calendar.proofs.rows.row_under.Tie as tie
 
-sub-row-in : tie.Need-sub-row-in
-sub-row-in c = head-found (c .args .year) (c .args .head) (c .pre .0) .written
+-- where the month stands
+stood : (a : tie.Start) → Stands xinghe (a .args .year - 1) (a .args .place) (a .args .head .before + a .args .place)
+stood a = head-stands (a .args .year) (a .args .head) (a .pre .0) (a .args .place) (a .pre .1)
 
-add-row-in : tie.Need-add-row-in
-add-row-in c =
-    let a = c .before in
-    omega (arith, in-round (a .args .year - 1) (a .args .place) _ (head-stands (a .args .year) (a .args .head) (a .pre .0) (a .args .place) (a .pre .1)))
+constants-requires : tie.Need-constants-requires
+constants-requires c κs = search needs
 
-row-in-requires : tie.Need-row-in-requires
-row-in-requires c κs =
+sub-name-under : tie.Need-sub-name-under
+sub-name-under c = let a = c .before in head-found (a .args .year) (a .args .head) (a .pre .0) .written
+
+name-under-requires : tie.Need-name-under-requires
+name-under-requires c κs =
     let a = c .before in
-    (head-stands (a .args .year) (a .args .head) (a .pre .0) (a .args .place) (a .pre .1), head-leap (a .args .year) (a .args .head) (a .pre .0))
+    let s = stood a in
+    rw (c .constants .ensures) (sound, omega (arith, s .year), head-leap (a .args .year) (a .args .head) (a .pre .0), s .place)
+
+add-row-named : tie.Need-add-row-named
+add-row-named c = let a = c .before .before .before in omega (arith, in-round xinghe sound (a .args .year - 1) (a .args .place) _ (stood a))
+
+row-named-requires : tie.Need-row-named-requires
+row-named-requires c κs =
+    let a = c .before .before .before in
+    let s = stood a in
+    let n = rw (c .before .before .constants .ensures) at (c .before .name-under .ensures) in
+    (in-round xinghe sound (a .args .year - 1) (a .args .place) _ s, n ∙ ap (nameOf xinghe) (sym (s .month)))
 
 returns : tie.Need-returns
 returns c =
-    let a = c .before .before in
-    ap RowAnswer.Answered (c .row-in .ensures) ∙ head-row (a .args .year) (a .args .head) (a .pre .0) (a .args .place) (a .pre .1)
+    let a = c .before .before .before .before in
+    ap RowAnswer.Answered (c .row-named .ensures) ∙ head-row (a .args .year) (a .args .head) (a .pre .0) (a .args .place) (a .pre .1)
 
 pub row-under-spec : {M : Type 1} → statement M
-row-under-spec = tie.close (tie.spec sub-row-in add-row-in row-in-requires returns)
+row-under-spec =
+    tie.close
+    (tie.spec
+    constants-requires
+    sub-name-under
+    name-under-requires
+    add-row-named
+    row-named-requires
+    returns)

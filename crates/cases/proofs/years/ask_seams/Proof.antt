@@ -4,10 +4,10 @@ use Rattle.cases.proofs.years.ask_seams.Statement.{statement}
 use Rattle.cases.proofs.years.ask_seams.Tie as tie
 
 abbrev Inv-loop : tie.InvT-loop
-Inv-loop i₀ i = i ≤ 15
+Inv-loop i₀ i = i ≤ 25
 
 abbrev μ-loop : tie.MeasureT-loop
-μ-loop i₀ i = 15 - i
+μ-loop i₀ i = 25 - i
 
 loop-holds : tie.Need-loop-holds Inv-loop μ-loop
 loop-holds c = search needs

@@ -1,16 +1,15 @@
-use Rattle.units.proofs.Sound.{sound}
+use mathlib.Core.Path.{refl}
+use Rattle.reckoning.specs.Chapters.{chapterRest}
 use borrow.Author.Needs.{needs}
 use Rattle.units.proofs.Xinghe.leap_remainder.Statement.{statement}
 use Rattle.units.proofs.Xinghe.leap_remainder.Tie as tie
 
-constants-requires : tie.Need-constants-requires
-constants-requires c κs = search needs
-
-leap-remainder-requires : tie.Need-leap-remainder-requires
-leap-remainder-requires c κs = (rw (c .constants .ensures) sound, search needs, rw (c .constants .ensures) (c .before .pre .1))
+mul-result : tie.Need-mul-result
+mul-result c = search needs
 
 returns : tie.Need-returns
-returns c = rw (c .before .constants .ensures) at (c .leap-remainder .ensures)
+unfolding chapterRest
+returns c = refl
 
 pub leap-remainder-spec : {M : Type 1} → statement M
-leap-remainder-spec = tie.close (tie.spec constants-requires leap-remainder-requires returns)
+leap-remainder-spec = tie.close (tie.spec mul-result returns)
