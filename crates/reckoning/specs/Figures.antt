@@ -27,5 +27,6 @@ thirdBefore leap = 3 * (leapToCome leap 3 + leapToCome leap 6 + leapToCome leap 
 unfoldable pub numberBy : Bool → ℕ → ℕ
 numberBy come place = (place + pick come 9 10) % 12 + 1
 
+-- the same from the leap place
 abbrev pub numberAt : ℕ → ℕ → ℕ
 numberAt leap place = numberBy (leapCome leap place) place
