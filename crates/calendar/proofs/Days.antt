@@ -26,10 +26,6 @@ pub record Within (d m : ℕ) : Type 0 where
   pub from : rowOf m .day ≤ d
   pub upto : d < rowOf m .day + rowOf m .length
 
--- a month ends where the next begins
-pub row-end : (m : ℕ) → rowOf m .day + rowOf m .length ≡ newMoon means (suc m)
-row-end m = omega (arith, row-day m, row-length m, days.next-day xinghe sound m)
-
 of-row : (d m : ℕ) → Within d m → days.Within xinghe d m
 of-row d m w =
     record { month = w .month; from = omega (arith, row-day m, w .from); upto = omega (arith, row-day m, row-length m, w .upto) }

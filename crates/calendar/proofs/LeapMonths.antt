@@ -25,8 +25,7 @@ use Rattle.calendar.specs.Heads.{headOf, yearHead}
 use Rattle.calendar.specs.Rows.{rowOf}
 use Rattle.calendar.specs.declared.YearHead.{YearHead}
 use Rattle.calendar.specs.declared.HeadAnswer.{HeadAnswer}
-use Rattle.calendar.proofs.Round.{head-found, head-leap, row-day}
-use Rattle.calendar.proofs.Days.{row-end}
+use Rattle.calendar.proofs.Round.{head-found, head-leap, row-day, row-end}
 
 -- the solstice's day is that of the year's first middle term
 solstice-day : (y : ℕ) → solsticeOf y .day ≡ termDay means (12 * y)

@@ -39,13 +39,12 @@ pub row-day : (m : ℕ) → rowOf m .day ≡ newMoon means m
 unfolding rowOf newMoonOf
 row-day m = refl
 
-length-is : (m : ℕ) → newMoon means m + lengthOf (newMoonOf m .remainder) ≡ newMoon means (suc m)
-unfolding newMoonOf lengthOf
-length-is m = length-by means (sound .moon) m
+pub row-end : (m : ℕ) → rowOf m .day + rowOf m .length ≡ newMoon means (suc m)
+unfolding rowOf newMoonOf lengthOf
+row-end m = length-by means (sound .moon) m
 
 pub row-length : (m : ℕ) → rowOf m .length ≡ monthDays xinghe m
-unfolding rowOf
-row-length m = omega (arith, length-is m, next-day xinghe sound m)
+row-length m = omega (arith, row-day m, row-end m, next-day xinghe sound m)
 
 -- a row that is answered is that of the month that stands there
 pub record RowFound (n p : ℕ) (row : MonthRow) : Type 0 where

@@ -10,7 +10,7 @@ pub mod dates;
 pub mod heads;
 pub mod rows;
 
-// A year: the months before it (積月), the leap remainder (閏餘) of its chapter, its month count, its leap place (0 for none) and its winter solstice.
+// A year: the months before it, the leap remainder (閏餘) of its chapter, its month count, its leap place (0 for none) and its winter solstice.
 pub struct YearHead {
     pub before: u64,
     pub remainder: u64,

@@ -1,8 +1,9 @@
 // Full answers for chosen years.
 use crate::questions;
 
-// The years at the seams of the round, and years in which the days of the middle terms decide: a leap place one or two before the chapter's
-// (6, 11, 28, 41, 52, 294,000), and a thirteenth month that the chapter gives to the year after (19 and 20, 1,011,285 and 1,011,286).
+// The years at the seams of the round; years in which the days of the middle terms decide, a leap place one or two before the chapter's (6,
+// 28, 41, 52, 294,000) and a thirteenth month that the chapter gives to the year after (19 and 20, 1,011,285 and 1,011,286); and one that
+// rounding gets wrong (11).
 const SEAMS: [u64; 25] = [
     2,
     3,

@@ -70,8 +70,8 @@ pub fn name_under(k: Constants, y: u64, leap: u64, place: u64) -> MonthName
     }
 }
 
-// The name of the month at a place of year y, from the months before that year: its own days and its neighbours' tell it, no leap place is
-// sought.
+// The name of the month at a place of year y, from the months before that year: its own days and two middle terms tell it, no leap place
+// is sought.
 pub fn name_from(k: Constants, y: u64, before: u64, place: u64) -> MonthName
     requires { ⌜ Sound k × (y < 1048576) × (before ≡ ruleOf k .before y) × (place < monthCount (ruleOf k) y) ⌝ }
     ensures { λ r. ⌜ r ≡ nameOf k (before + place) ⌝ }

@@ -1,4 +1,5 @@
-// The printed chapter (章), and the months before any year from it and whole chapters. Years are counted from 0.
+// The printed chapter (章), and the months before any year: from it and whole chapters, and one more where the rule of days says so. Years are
+// counted from 0.
 use crate::Xinghe;
 ghost use mathlib.Core.Path.{_≡_};
 ghost use Prim.Native.Nat.{_≤_};

@@ -13,8 +13,9 @@ use crate::planet_cases;
 use crate::sixty;
 use crate::walker::{Month, Row};
 
-/// Years at the seams of the round, and years in which the days of the middle
-/// terms decide the leap place or the count, asked after those at even distances.
+/// Years at the seams of the round, years in which the days of the middle terms
+/// decide the leap place or the count, and one that rounding gets wrong (11);
+/// asked after those at even distances.
 const SEAM_YEARS: [u64; 25] = [
     2, 3, 4, 6, 11, 19, 20, 28, 41, 52, 168_600, 168_601, 293_997, 294_000, 337_200, 337_201,
     505_800, 505_801, 674_400, 674_401, 843_000, 843_001, 1_011_285, 1_011_286, 1_011_600,
