@@ -43,18 +43,13 @@ impl MonthRow {
         same_row(self, crate::rows::row_of(m))
     }
 
-    // The row of month `to`, if this row is genuine, and else refusal 4. One look at the chapter serves the row that is tested and the one that
-    // is answered.
+    // The row of month `to`, if this row is genuine, and else refusal 4.
     pub fn moved_to(self, to: u64) -> RowAnswer
-        requires { ⌜ (self .lunation < roundMonths) × (to < roundMonths) ⌝ }
+        requires { ⌜ to < roundMonths ⌝ }
         ensures { λ r. ⌜ r ≡ pick (genuine months self) (RowAnswer.Answered (rowOf to)) (RowAnswer.Refused Refusal.Row) ⌝ }
     {
-        let m = self.lunation;
-        let y = Xinghe::year_of(m);
-        let z = Xinghe::year_of(to);
-        let both = units::chapter::months_before_both(y, z);
-        if same_row(self, crate::rows::row_from(y, both.first, m)) {
-            RowAnswer::Answered(crate::rows::row_from(z, both.second, to))
+        if self.is_genuine() {
+            RowAnswer::Answered(crate::rows::row_of(to))
         } else {
             RowAnswer::Refused(Refusal::Row)
         }

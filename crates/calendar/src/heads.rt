@@ -13,8 +13,8 @@ fn head_of(y: u64) -> YearHead
 {
     let before = units::chapter::months_before(y);
     let remainder = Xinghe::leap_remainder(y);
-    let months = Xinghe::month_count(y, before);
-    let leap = Xinghe::leap_place(y, before);
+    let months = lunisolar::rule::month_count(Xinghe::constants(), y, before);
+    let leap = units::chapter::leap_place(y, before);
     let solstice = sun::winter_solstice(y);
     YearHead {
         before,

@@ -1,13 +1,12 @@
 // A month's name: its year, its place, its month number and whether it is the leap month.
 use crate::Constants;
-use crate::rule::leap_come;
+use crate::means::term_from;
 ghost use mathlib.Core.Path.{_≡_};
 ghost use Prim.Native.Nat.{_+_, _%_, _<_};
-ghost use lib.Dec.{eqb};
-ghost use Rattle.reckoning.specs.Search.{pick};
 ghost use Rattle.reckoning.specs.Rule.{leapPlace, monthCount};
-ghost use Rattle.reckoning.specs.Figures.{leapAt, numberBy, numberAt};
-ghost use Rattle.lunisolar.specs.Calendars.{Sound, ruleOf};
+ghost use Rattle.reckoning.specs.Means.{newMoon};
+ghost use Rattle.reckoning.specs.Figures.{leapAt, leapOrPast, numberBy, numberAt};
+ghost use Rattle.lunisolar.specs.Calendars.{Sound, meansOf, ruleOf};
 ghost use Rattle.lunisolar.specs.Names.{nameOf};
 
 // A year as it is written, a place, a month number (11 at place 0) and the leap mark.
@@ -37,7 +36,7 @@ fn number_by(come: bool, place: u64) -> u64
 
 // The leap place, or one past every place where there is none: one comparison then tells where a month stands to it.
 fn leap_from(leap: u64) -> u64
-    ensures { λ r. ⌜ r ≡ pick (eqb leap 0) 13 leap ⌝ }
+    ensures { λ r. ⌜ r ≡ leapOrPast leap ⌝ }
 {
     if leap == 0 { 13 } else { leap }
 }
@@ -70,16 +69,15 @@ pub fn name_under(k: Constants, y: u64, leap: u64, place: u64) -> MonthName
     }
 }
 
-// The name of the month at a place of year y, from the months before that year: its own days and two middle terms tell it, no leap place
-// is sought.
-pub fn name_from(k: Constants, y: u64, before: u64, place: u64) -> MonthName
-    requires { ⌜ Sound k × (y < 1048576) × (before ≡ ruleOf k .before y) × (place < monthCount (ruleOf k) y) ⌝ }
-    ensures { λ r. ⌜ r ≡ nameOf k (before + place) ⌝ }
+// The name of the month at a place of year y, from its own first day and the next month's: two middle terms tell it, no leap place is sought.
+pub fn name_from(k: Constants, y: u64, place: u64, first: u64, next: u64) -> MonthName
+    requires { ⌜ Sound k × (y < 1048576) × (place < monthCount (ruleOf k) y) × (first ≡ newMoon (meansOf k) (ruleOf k .before y + place)) × (next ≡ newMoon (meansOf k) (ruleOf k .before y + place + 1)) ⌝ }
+    ensures { λ r. ⌜ r ≡ nameOf k (ruleOf k .before y + place) ⌝ }
 {
-    let come = leap_come(k, y, before, place);
-    // at place 0 no leap month has come, so that the month before it need not be asked
+    let come = term_from(k, 12 * y + place, next);
+    // at place 0 no leap month has come, so that the term before it need not be asked
     let earlier = place - (0 < place) as u64;
-    let had = leap_come(k, y, before, earlier);
+    let had = term_from(k, 12 * y + earlier, first);
     MonthName {
         year: y + k.first,
         place,

@@ -5,7 +5,7 @@ use crate::means::term_from;
 ghost use mathlib.Core.Path.{_≡_};
 ghost use Prim.Native.Nat.{_+_, _≤_, _<_};
 ghost use Rattle.reckoning.specs.Rule.{monthCount, leapPlace, yearOf};
-ghost use Rattle.reckoning.specs.Figures.{leapCome, leapToCome, thirdBefore};
+ghost use Rattle.reckoning.specs.Figures.{leapCome, leapToCome, LeapNear};
 ghost use Rattle.lunisolar.specs.Calendars.{Sound, ruleOf};
 
 // The months before year y, from a count that may be one short: one more where the month after so many begins on the solstice's day.
@@ -22,7 +22,7 @@ pub fn months_from(k: Constants, y: u64, count: u64) -> u64
 
 // Whether the leap month of year y, with so many months before it, stands at a place or before: that place's middle term then falls on the
 // next month's first day or later.
-pub fn leap_come(k: Constants, y: u64, before: u64, place: u64) -> bool
+fn leap_come(k: Constants, y: u64, before: u64, place: u64) -> bool
     requires { ⌜ Sound k × (y < 1048576) × (before ≡ ruleOf k .before y) × (place ≤ 12) ⌝ }
     ensures { λ r. ⌜ r ≡ leapCome (leapPlace (ruleOf k) y) place ⌝ }
 {
@@ -37,17 +37,6 @@ fn leap_to_come(k: Constants, y: u64, before: u64, place: u64) -> u64
     !leap_come(k, y, before, place) as u64
 }
 
-// The last of the places 0, 3, 6 and 9 before the leap month, and 9 where there is none.
-fn third_before_leap(k: Constants, y: u64, before: u64) -> u64
-    requires { ⌜ Sound k × (y < 1048576) × (before ≡ ruleOf k .before y) ⌝ }
-    ensures { λ r. ⌜ (r ≡ thirdBefore (leapPlace (ruleOf k) y)) × (r ≤ 9) ⌝ }
-{
-    let three = leap_to_come(k, y, before, 3);
-    let six = leap_to_come(k, y, before, 6);
-    let nine = leap_to_come(k, y, before, 9);
-    3 * (three + six + nine)
-}
-
 // The months of year y: a thirteenth where the leap month has come by place 12, which is then the last.
 pub fn month_count(k: Constants, y: u64, before: u64) -> u64
     requires { ⌜ Sound k × (y < 1048576) × (before ≡ ruleOf k .before y) ⌝ }
@@ -56,16 +45,15 @@ pub fn month_count(k: Constants, y: u64, before: u64) -> u64
     12 + leap_come(k, y, before, 12) as u64
 }
 
-// The place of the leap month of year y, from the months before it; 0 where it has none. Two looks find it, at every third place and then
-// between two of them. They are taken in every year: a jump would often be guessed wrongly.
-pub fn leap_place(k: Constants, y: u64, before: u64) -> u64
-    requires { ⌜ Sound k × (y < 1048576) × (before ≡ ruleOf k .before y) ⌝ }
+// The place of the leap month of year y, from the months before it and a place that stands one to three before; 0 where it has none. The two
+// places after that one are looked at in every year: a jump would often be guessed wrongly.
+pub fn leap_place(k: Constants, y: u64, before: u64, near: u64) -> u64
+    requires { ⌜ Sound k × (y < 1048576) × (before ≡ ruleOf k .before y) × LeapNear (leapPlace (ruleOf k) y) near ⌝ }
     ensures { λ r. ⌜ r ≡ leapPlace (ruleOf k) y ⌝ }
 {
-    let third = third_before_leap(k, y, before);
-    let one = leap_to_come(k, y, before, third + 1);
-    let two = leap_to_come(k, y, before, third + 2);
-    (third + one + two + 1) * (month_count(k, y, before) - 12)
+    let one = leap_to_come(k, y, before, near + 1);
+    let two = leap_to_come(k, y, before, near + 2);
+    (near + one + two + 1) * (month_count(k, y, before) - 12)
 }
 
 // The year of month m: the last whose solstice falls before the next month's first day.

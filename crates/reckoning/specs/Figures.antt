@@ -3,7 +3,7 @@
 -- of proofs/Leaps.antt what `leapCome` says of the middle terms.
 -- Assumes nothing.
 use mathlib.Core.Bool.{Bool, _&&_}
-use Prim.Native.Nat.{ℕ, _+_, _*_, _%_}
+use Prim.Native.Nat.{ℕ, _+_, _%_, _≤_, _<_}
 use lib.Dec.{leb, ltb, eqb}
 use Rattle.reckoning.specs.Search.{pick}
 
@@ -19,9 +19,14 @@ leapCome leap place = ltb 0 leap && leb leap place
 abbrev pub leapToCome : ℕ → ℕ → ℕ
 leapToCome leap place = pick (leapCome leap place) 0 1
 
--- the last of the places 0, 3, 6 and 9 before the leap month; 9 in a year that has none
-abbrev pub thirdBefore : ℕ → ℕ
-thirdBefore leap = 3 * (leapToCome leap 3 + leapToCome leap 6 + leapToCome leap 9)
+-- the leap place, and where the year has none 13, which is past every place
+abbrev pub leapOrPast : ℕ → ℕ
+leapOrPast leap = pick (eqb leap 0) 13 leap
+
+-- a place from which two looks, at the next two places and not past 12, find the leap month: where the year has one, it stands one to three
+-- places after
+abbrev pub LeapNear : ℕ → ℕ → Type 0
+LeapNear leap place = (place ≤ 10) × (0 < leap → (place < leap) × (leap ≤ place + 3))
 
 -- the month number at that place, where the leap month has come by then or hasn't
 unfoldable pub numberBy : Bool → ℕ → ℕ

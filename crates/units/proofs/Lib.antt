@@ -1,3 +1,4 @@
 pub mod Sound
 pub mod Years
 pub mod Table
+pub mod Leaps

@@ -1,11 +1,11 @@
 -- The chapter (章) of the Xinghe, as it is printed (02 §2).
 -- Assumes nothing.
 use mathlib.Core.List.{List}
-use Prim.Native.Nat.{ℕ}
+use Prim.Native.Nat.{ℕ, _*_}
+use lib.ListN.{getD}
 use Rattle.reckoning.specs.Search.{listFrom}
 use Rattle.reckoning.specs.Chapters.{chapterBefore, chapterRest}
-use Rattle.units.specs.Xinghe.{chapterMonths, chapterYears, rule}
-use Rattle.units.specs.declared.chapter.MonthsBefore.{MonthsBefore}
+use Rattle.units.specs.Xinghe.{chapterMonths, chapterYears}
 
 -- the months before the year with y years past, as the chapter gives them (積月): floor(6951·y/562)
 abbrev pub byChapter : ℕ → ℕ
@@ -19,6 +19,6 @@ leapRemainder y = chapterRest chapterMonths chapterYears y
 unfoldable pub chapterTable : List ℕ
 chapterTable = listFrom byChapter 0 chapterYears
 
--- the months before the years with y and z years past, by the calendar's rule: the chapter's or one more
-abbrev pub monthsBefore : ℕ → ℕ → MonthsBefore
-monthsBefore y z = record { first = rule .before y; second = rule .before z }
+-- four of its entries, from year 4·t of the chapter on; past its end 0
+unfoldable pub fourYears : ℕ → List ℕ
+fourYears t = listFrom (λ j. getD chapterTable j 0) (4 * t) 4

@@ -30,12 +30,15 @@ T = 5745941
 abbrev pub C : ℕ
 C = 7513
 
--- a chapter: its years (章歲) and months (章月)
+-- a chapter: its years (章歲), months (章月) and leap months (章閏)
 abbrev pub chapterYears : ℕ
 chapterYears = 562
 
 abbrev pub chapterMonths : ℕ
 chapterMonths = 6951
+
+abbrev pub chapterLeaps : ℕ
+chapterLeaps = 207
 
 -- an era (紀): its years and months
 abbrev pub eraYears : ℕ

@@ -1,57 +1,253 @@
-// The printed chapter (章), and the months before any year: from it and whole chapters, and one more where the rule of days says so. Years are
-// counted from 0.
+// The printed chapter (章), and what is taken from it: the months before any year, from it and whole chapters, one more where the rule of days
+// says so, and where to look for the leap month. Years are counted from 0.
 use crate::Xinghe;
 ghost use mathlib.Core.Path.{_≡_};
-ghost use Prim.Native.Nat.{_≤_};
-ghost use Rattle.units.specs.Xinghe.{rule};
-ghost use Rattle.units.specs.Chapter.{chapterTable, byChapter, monthsBefore};
+ghost use Prim.Native.Nat.{_*_, _≤_, _<_};
+ghost use lib.ListN.{getD};
+ghost use Rattle.reckoning.specs.Rule.{leapPlace};
+ghost use Rattle.reckoning.specs.Figures.{LeapNear};
+ghost use Rattle.units.specs.Xinghe.{chapterYears, rule};
+ghost use Rattle.units.specs.Chapter.{chapterTable, fourYears, byChapter};
 
 // The months before each year of a chapter.
 type Entries = [u16; 562];
 
-// The months before two years.
-pub struct MonthsBefore {
-    pub first: u64,
-    pub second: u64,
-}
+// From this leap remainder on the month after the solstice's may begin on its day; below, it begins a day or more after the solstice.
+const SAME_DAY_FROM: u64 = 543;
 
-// The months before year y as the chapter gives them: those of the whole chapters before it, and the table's entry for its year of the
-// chapter.
-fn chapter_months(table: &Entries, y: u64) -> u64
-    requires { ⌜ (now table ≡ chapterTable) × (y ≤ 1048576) ⌝ }
-    ensures { λ r. ⌜ r ≡ byChapter y ⌝ }
-{
-    let j = (y % Xinghe::CHAPTER) as usize;
-    y / Xinghe::CHAPTER * Xinghe::LUNATIONS + table[j] as u64
-}
-
-// The months before year y, from the printed chapter.
-fn months_by(table: &Entries, y: u64) -> u64
-    requires { ⌜ (now table ≡ chapterTable) × (y ≤ 1048576) ⌝ }
-    ensures { λ r. ⌜ r ≡ rule .before y ⌝ }
-{
-    lunisolar::rule::months_from(Xinghe::constants(), y, chapter_months(table, y))
-}
-
-// The months before year y. A constant array is laid out on the stack wherever it is read: this and the next function are the two looks at
-// the table, and no job takes more than one.
+// The months before year y. Of most years the leap remainder tells that the chapter's count stands: the machine guesses so and goes on, where
+// it would wait for the comparison of days. The remainder is had from the count without a division.
 pub fn months_before(y: u64) -> u64
     requires { ⌜ y ≤ 1048576 ⌝ }
     ensures { λ r. ⌜ r ≡ rule .before y ⌝ }
 {
-    let table = chapter_table();
-    months_by(&table, y)
+    let count = chapter_months(y);
+    if y * Xinghe::LUNATIONS - count * Xinghe::CHAPTER < SAME_DAY_FROM {
+        return count;
+    }
+    lunisolar::rule::months_from(Xinghe::constants(), y, count)
 }
 
-// The months before years y and z, as the years of two rows, from one layout.
-pub fn months_before_both(y: u64, z: u64) -> MonthsBefore
-    requires { ⌜ (y ≤ 1048576) × (z ≤ 1048576) ⌝ }
-    ensures { λ r. ⌜ r ≡ monthsBefore y z ⌝ }
+// A place that the leap month of year y comes after by three at most, if the year has one. By instants a term is late from the first place on
+// with 207·place of 12·gap or more (01's least k), the gap being that from the solstice to the next new moon; by days from there, or from one or
+// two places before. No leap month stands past place 12.
+fn near_leap(y: u64) -> u64
+    requires { ⌜ y < 1048576 ⌝ }
+    ensures { λ r. ⌜ LeapNear (leapPlace rule y) r ⌝ }
+{
+    // in parts of which a month has 562
+    let gap = Xinghe::CHAPTER - Xinghe::leap_remainder(y);
+    let by_instants = (12 * gap + (Xinghe::LEAPS - 1)) / Xinghe::LEAPS;
+    if by_instants < 3 {
+        return 0;
+    }
+    if by_instants < 13 {
+        by_instants - 3
+    } else {
+        10
+    }
+}
+
+// The leap place of year y, from the months before it; 0 where it has none.
+pub fn leap_place(y: u64, before: u64) -> u64
+    requires { ⌜ (y < 1048576) × (before ≡ rule .before y) ⌝ }
+    ensures { λ r. ⌜ r ≡ leapPlace rule y ⌝ }
+{
+    let near = near_leap(y);
+    lunisolar::rule::leap_place(Xinghe::constants(), y, before, near)
+}
+
+// The months before year y as the chapter gives them: those of the whole chapters before it, and the table's entry for its year of the
+// chapter.
+fn chapter_months(y: u64) -> u64
+    requires { ⌜ y ≤ 1048576 ⌝ }
+    ensures { λ r. ⌜ r ≡ byChapter y ⌝ }
+{
+    y / Xinghe::CHAPTER * Xinghe::LUNATIONS + entry(y % Xinghe::CHAPTER) as u64
+}
+
+// The table's entry for a year of the chapter.
+fn entry(j: u64) -> u16
+    requires { ⌜ j < chapterYears ⌝ }
+    ensures { λ r. ⌜ r ≡ getD chapterTable j 0 ⌝ }
+{
+    let four = four_years((j / 4) as usize);
+    let i = (j % 4) as usize;
+    four[i]
+}
+
+// The table's entries for the four years from 4·t on, as the lent table has them. Its last two years are followed by zeros.
+fn four_from(table: &Entries, t: usize) -> [u16; 4]
+    requires { ⌜ (now table ≡ chapterTable) × (4 * t < chapterYears) ⌝ }
+    ensures { λ r. ⌜ r ≡ fourYears t ⌝ }
+{
+    if t == 140 {
+        return [table[560], table[561], 0, 0];
+    }
+    let first = 4 * t;
+    [
+        table[first],
+        table[first + 1],
+        table[first + 2],
+        table[first + 3],
+    ]
+}
+
+// The same, from the table itself. A constant array that is read at a place which only the run tells is laid out on the stack whole, at every
+// look. In an arm the compiler knows t: what is read there stays in the program's data, and four entries are one load. So every t has its arm,
+// and these say the same. The last arm is never taken; it has a table of its own, so that the first is read at known places alone.
+fn four_years(t: usize) -> [u16; 4]
+    requires { ⌜ 4 * t < chapterYears ⌝ }
+    ensures { λ r. ⌜ r ≡ fourYears t ⌝ }
 {
     let table = chapter_table();
-    let first = months_by(&table, y);
-    let second = months_by(&table, z);
-    MonthsBefore { first, second }
+    match t {
+        0 => four_from(&table, t),
+        1 => four_from(&table, t),
+        2 => four_from(&table, t),
+        3 => four_from(&table, t),
+        4 => four_from(&table, t),
+        5 => four_from(&table, t),
+        6 => four_from(&table, t),
+        7 => four_from(&table, t),
+        8 => four_from(&table, t),
+        9 => four_from(&table, t),
+        10 => four_from(&table, t),
+        11 => four_from(&table, t),
+        12 => four_from(&table, t),
+        13 => four_from(&table, t),
+        14 => four_from(&table, t),
+        15 => four_from(&table, t),
+        16 => four_from(&table, t),
+        17 => four_from(&table, t),
+        18 => four_from(&table, t),
+        19 => four_from(&table, t),
+        20 => four_from(&table, t),
+        21 => four_from(&table, t),
+        22 => four_from(&table, t),
+        23 => four_from(&table, t),
+        24 => four_from(&table, t),
+        25 => four_from(&table, t),
+        26 => four_from(&table, t),
+        27 => four_from(&table, t),
+        28 => four_from(&table, t),
+        29 => four_from(&table, t),
+        30 => four_from(&table, t),
+        31 => four_from(&table, t),
+        32 => four_from(&table, t),
+        33 => four_from(&table, t),
+        34 => four_from(&table, t),
+        35 => four_from(&table, t),
+        36 => four_from(&table, t),
+        37 => four_from(&table, t),
+        38 => four_from(&table, t),
+        39 => four_from(&table, t),
+        40 => four_from(&table, t),
+        41 => four_from(&table, t),
+        42 => four_from(&table, t),
+        43 => four_from(&table, t),
+        44 => four_from(&table, t),
+        45 => four_from(&table, t),
+        46 => four_from(&table, t),
+        47 => four_from(&table, t),
+        48 => four_from(&table, t),
+        49 => four_from(&table, t),
+        50 => four_from(&table, t),
+        51 => four_from(&table, t),
+        52 => four_from(&table, t),
+        53 => four_from(&table, t),
+        54 => four_from(&table, t),
+        55 => four_from(&table, t),
+        56 => four_from(&table, t),
+        57 => four_from(&table, t),
+        58 => four_from(&table, t),
+        59 => four_from(&table, t),
+        60 => four_from(&table, t),
+        61 => four_from(&table, t),
+        62 => four_from(&table, t),
+        63 => four_from(&table, t),
+        64 => four_from(&table, t),
+        65 => four_from(&table, t),
+        66 => four_from(&table, t),
+        67 => four_from(&table, t),
+        68 => four_from(&table, t),
+        69 => four_from(&table, t),
+        70 => four_from(&table, t),
+        71 => four_from(&table, t),
+        72 => four_from(&table, t),
+        73 => four_from(&table, t),
+        74 => four_from(&table, t),
+        75 => four_from(&table, t),
+        76 => four_from(&table, t),
+        77 => four_from(&table, t),
+        78 => four_from(&table, t),
+        79 => four_from(&table, t),
+        80 => four_from(&table, t),
+        81 => four_from(&table, t),
+        82 => four_from(&table, t),
+        83 => four_from(&table, t),
+        84 => four_from(&table, t),
+        85 => four_from(&table, t),
+        86 => four_from(&table, t),
+        87 => four_from(&table, t),
+        88 => four_from(&table, t),
+        89 => four_from(&table, t),
+        90 => four_from(&table, t),
+        91 => four_from(&table, t),
+        92 => four_from(&table, t),
+        93 => four_from(&table, t),
+        94 => four_from(&table, t),
+        95 => four_from(&table, t),
+        96 => four_from(&table, t),
+        97 => four_from(&table, t),
+        98 => four_from(&table, t),
+        99 => four_from(&table, t),
+        100 => four_from(&table, t),
+        101 => four_from(&table, t),
+        102 => four_from(&table, t),
+        103 => four_from(&table, t),
+        104 => four_from(&table, t),
+        105 => four_from(&table, t),
+        106 => four_from(&table, t),
+        107 => four_from(&table, t),
+        108 => four_from(&table, t),
+        109 => four_from(&table, t),
+        110 => four_from(&table, t),
+        111 => four_from(&table, t),
+        112 => four_from(&table, t),
+        113 => four_from(&table, t),
+        114 => four_from(&table, t),
+        115 => four_from(&table, t),
+        116 => four_from(&table, t),
+        117 => four_from(&table, t),
+        118 => four_from(&table, t),
+        119 => four_from(&table, t),
+        120 => four_from(&table, t),
+        121 => four_from(&table, t),
+        122 => four_from(&table, t),
+        123 => four_from(&table, t),
+        124 => four_from(&table, t),
+        125 => four_from(&table, t),
+        126 => four_from(&table, t),
+        127 => four_from(&table, t),
+        128 => four_from(&table, t),
+        129 => four_from(&table, t),
+        130 => four_from(&table, t),
+        131 => four_from(&table, t),
+        132 => four_from(&table, t),
+        133 => four_from(&table, t),
+        134 => four_from(&table, t),
+        135 => four_from(&table, t),
+        136 => four_from(&table, t),
+        137 => four_from(&table, t),
+        138 => four_from(&table, t),
+        139 => four_from(&table, t),
+        140 => four_from(&table, t),
+        _ => {
+            let again = chapter_table();
+            four_from(&again, t)
+        }
+    }
 }
 
 fn chapter_table() -> Entries

@@ -4,7 +4,7 @@ use lunisolar::LunationAnswer;
 use lunisolar::YearAnswer;
 ghost use mathlib.Core.Path.{_≡_};
 ghost use Prim.Native.Nat.{_≤_, _<_};
-ghost use Rattle.reckoning.specs.Rule.{monthCount, leapPlace, yearOf};
+ghost use Rattle.reckoning.specs.Rule.{yearOf};
 ghost use Rattle.reckoning.specs.Means.{newMoon};
 ghost use Rattle.reckoning.specs.Dates.{monthOf};
 ghost use Rattle.lunisolar.specs.Calendars.{yearAt, lunationAt};
@@ -42,6 +42,9 @@ impl Xinghe {
     pub const CHAPTER: u64 = 562;
 
     pub const LUNATIONS: u64 = 6951;
+
+    // the leap months of a chapter (章閏)
+    pub const LEAPS: u64 = 207;
 
     // the months of an era (紀)
     pub const ERA: u64 = 2085300;
@@ -94,21 +97,6 @@ impl Xinghe {
         ensures { λ r. ⌜ r ≡ leapRemainder y ⌝ }
     {
         y * Xinghe::LUNATIONS % Xinghe::CHAPTER
-    }
-
-    // The month count and the leap place of a year, counted from 0, from the months before it.
-    pub fn month_count(y: u64, before: u64) -> u64
-        requires { ⌜ (y < 1048576) × (before ≡ rule .before y) ⌝ }
-        ensures { λ r. ⌜ r ≡ monthCount rule y ⌝ }
-    {
-        lunisolar::rule::month_count(Xinghe::constants(), y, before)
-    }
-
-    pub fn leap_place(y: u64, before: u64) -> u64
-        requires { ⌜ (y < 1048576) × (before ≡ rule .before y) ⌝ }
-        ensures { λ r. ⌜ r ≡ leapPlace rule y ⌝ }
-    {
-        lunisolar::rule::leap_place(Xinghe::constants(), y, before)
     }
 
     // The year of a month, counted from 0, and the month of a day.

@@ -53,7 +53,7 @@ impl WalkAnswer {
 }
 
 // The month alone is moved, and at the end the first row is tested and one row worked out: by demand 3 that is the walk which carries the row
-// by each count. The two rows come from one look at the chapter.
+// by each count.
 pub fn walk(start: MonthRow, counts: &[i64]) -> WalkAnswer
     ensures { λ r. ⌜ r ≡ walkAnswer start (now (counts .entry)) ⌝ }
 {

@@ -44,7 +44,7 @@ walk-months-requires : tie.Need-walk-months-requires
 walk-months-requires c κs = search needs
 
 moved-to-requires : tie.Need-moved-to-requires
-moved-to-requires c κs = (c .before .if1 .left, omega (arith, inside c, c .before .if1 .left))
+moved-to-requires c κs = omega (arith, inside c, c .before .if1 .left)
 
 enum-known-row : tie.Need-enum-known-row
 enum-known-row c = search needs

@@ -42,7 +42,7 @@ enum-known-k c = search needs
 moved-to-requires : tie.Need-moved-to-requires
 moved-to-requires c κs =
     let a = c .before .before .before in
-    (a .before .if1 .left, reached-below roundMonths (sum a) (c .before .k .given .0 .0) (sym (c .before .k .given .1) ∙ reached a))
+    reached-below roundMonths (sum a) (c .before .k .given .0 .0) (sym (c .before .k .given .1) ∙ reached a)
 
 enum-told : tie.Need-enum-told
 enum-told c = search needs

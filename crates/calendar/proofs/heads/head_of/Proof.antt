@@ -1,4 +1,5 @@
 use mathlib.Core.Path.{refl}
+use Rattle.units.proofs.Sound.{sound}
 use Rattle.calendar.specs.Heads.{headOf}
 use borrow.Author.Needs.{needs}
 use Rattle.calendar.proofs.heads.head_of.Statement.{statement}
@@ -10,8 +11,13 @@ months-before-requires c κs = search needs
 leap-remainder-requires : tie.Need-leap-remainder-requires
 leap-remainder-requires c κs = search needs
 
+constants-requires : tie.Need-constants-requires
+constants-requires c κs = search needs
+
 month-count-requires : tie.Need-month-count-requires
-month-count-requires c κs = search needs
+month-count-requires c κs =
+    let b = c .before .before in
+    rw (c .constants .ensures) (sound, b .before .pre, b .months-before .ensures)
 
 leap-place-requires : tie.Need-leap-place-requires
 leap-place-requires c κs = search needs
@@ -22,8 +28,16 @@ winter-solstice-requires c κs = search needs
 returns : tie.Need-returns
 unfolding headOf
 returns c =
-    let m = c .before .before in
-    rw (m .before .before .months-before .ensures, m .before .leap-remainder .ensures, m .month-count .ensures, c .before .leap-place .ensures, c .winter-solstice .ensures)
+    let n = c .before .before in
+    let r = n .before .before in
+    rw (
+      r .before .months-before .ensures,
+      r .leap-remainder .ensures,
+      n .month-count .ensures,
+      n .before .constants .ensures,
+      c .before .leap-place .ensures,
+      c .winter-solstice .ensures,
+    )
     refl
 
 pub head-of-spec : {M : Type 1} → statement M
@@ -32,6 +46,7 @@ head-of-spec =
     (tie.spec
     months-before-requires
     leap-remainder-requires
+    constants-requires
     month-count-requires
     leap-place-requires
     winter-solstice-requires

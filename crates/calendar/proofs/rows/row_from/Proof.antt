@@ -1,12 +1,17 @@
 use native.Mathlib.Omega.{arith}
 use mathlib.Core.Path.{_≡_, ap, _∙_}
-use Prim.Native.Nat.{_+_, _-_, _≤_}
+use Prim.Native.Nat.{suc, _+_, _-_, _≤_}
+use native.Mathlib.Numerals.{add-one}
 use Rattle.reckoning.specs.Rule.{placeOf}
+use Rattle.reckoning.specs.Means.{newMoon}
 use Rattle.reckoning.proofs.Rows.{year-from}
+use Rattle.reckoning.proofs.Moons.{moon-high}
 use Rattle.lunisolar.specs.Names.{nameOf}
 use Rattle.lunisolar.proofs.Rounds.{year-in-round, stands}
-use Rattle.units.specs.Xinghe.{xinghe, rule}
+use Rattle.units.specs.Xinghe.{xinghe, means, rule}
 use Rattle.units.proofs.Sound.{sound, laws}
+use Rattle.calendar.specs.Rows.{rowOf}
+use Rattle.calendar.proofs.Round.{row-day, row-end}
 use borrow.Author.Needs.{needs}
 use Rattle.calendar.proofs.rows.row_from.Statement.{statement}
 use Rattle.calendar.proofs.rows.row_from.Tie as tie
@@ -14,32 +19,60 @@ use Rattle.calendar.proofs.rows.row_from.Tie as tie
 from : (a : tie.Start) → a .args .before ≤ a .args .lunation
 from a = rw (a .pre .2, a .pre .1) (year-from rule laws (a .args .lunation))
 
+-- the month is the one at that place
+month : (a : tie.Start) → rule .before (a .args .y) + (a .args .lunation - a .args .before) ≡ a .args .lunation
+month a = omega (arith, from a, a .pre .2)
+
+-- the next month's first day
+next : (a : tie.After-length-of) → a .before .new-moon .result .day + a .length-of .result ≡ newMoon means (suc (a .before .before .args .lunation))
+unfolding rowOf
+next a = rw (a .length-of .ensures, a .before .new-moon .ensures) (row-end (a .before .before .args .lunation))
+
+new-moon-requires : tie.Need-new-moon-requires
+new-moon-requires c κs = search needs
+
+length-of-requires : tie.Need-length-of-requires
+length-of-requires c κs = search needs
+
+add-next : tie.Need-add-next
+add-next c = let a = c .before .before in omega (arith, next c, moon-high means (sound .moon) (suc (a .args .lunation)), a .pre .0)
+
 constants-requires : tie.Need-constants-requires
 constants-requires c κs = search needs
 
 sub-name-from : tie.Need-sub-name-from
-sub-name-from c = from (c .before)
+sub-name-from c = from (c .before .before .before)
 
 name-from-requires : tie.Need-name-from-requires
-unfolding placeOf
+unfolding placeOf rowOf
 name-from-requires c κs =
-    let a = c .before in
-    let m = a .args .lunation in (
-      rw (c .constants .ensures) sound,
+    let a = c .before .before .before in
+    let m = a .args .lunation in
+    rw (c .constants .ensures) (
+      sound,
       omega (arith, a .pre .1, year-in-round xinghe sound m (a .pre .0)),
-      rw (c .constants .ensures) (a .pre .2),
-      rw (c .constants .ensures, a .pre .2, a .pre .1) (stands xinghe sound m (a .pre .0) .place),
+      rw (a .pre .2, a .pre .1) (stands xinghe sound m (a .pre .0) .place),
+      rw (month a, c .before .before .new-moon .ensures) (row-day m),
+      rw (month a, add-one m) (next (c .before)),
     )
 
 row-named-requires : tie.Need-row-named-requires
 row-named-requires c κs =
-    let a = c .before .before in
-    let e : a .args .before + (a .args .lunation - a .args .before) ≡ a .args .lunation = omega (arith, from a) in
-    (a .pre .0, rw (c .before .constants .ensures) at (c .name-from .ensures) ∙ ap (nameOf xinghe) e)
+    let a = c .before .before .before .before in
+    (rw (c .before .constants .ensures) at (c .name-from .ensures) ∙ ap (nameOf xinghe) (month a), c .before .before .before .new-moon .ensures)
 
 returns : tie.Need-returns
 returns c = search needs
 
 pub row-from-spec : {M : Type 1} → statement M
 row-from-spec =
-    tie.close (tie.spec constants-requires sub-name-from name-from-requires row-named-requires returns)
+    tie.close
+    (tie.spec
+    new-moon-requires
+    length-of-requires
+    add-next
+    constants-requires
+    sub-name-from
+    name-from-requires
+    row-named-requires
+    returns)

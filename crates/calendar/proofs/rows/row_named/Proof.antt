@@ -3,9 +3,6 @@ use borrow.Author.Needs.{needs}
 use Rattle.calendar.proofs.rows.row_named.Statement.{statement}
 use Rattle.calendar.proofs.rows.row_named.Tie as tie
 
-new-moon-requires : tie.Need-new-moon-requires
-new-moon-requires c κs = search needs
-
 length-of-requires : tie.Need-length-of-requires
 length-of-requires c κs = search needs
 
@@ -14,4 +11,4 @@ unfolding rowOf
 returns c = cc
 
 pub row-named-spec : {M : Type 1} → statement M
-row-named-spec = tie.close (tie.spec new-moon-requires length-of-requires returns)
+row-named-spec = tie.close (tie.spec length-of-requires returns)

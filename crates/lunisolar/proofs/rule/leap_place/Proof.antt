@@ -6,22 +6,17 @@ use Rattle.reckoning.specs.Rule.{leapPlace}
 use Rattle.reckoning.proofs.Leaps.{year-low, year-ends, two-kinds, Common, Long}
 use Rattle.lunisolar.specs.Calendars.{ruleOf}
 use Rattle.lunisolar.proofs.Laws.{lawsOf}
-use Rattle.lunisolar.proofs.Figures.{third-is, place-is}
+use Rattle.lunisolar.proofs.Figures.{place-is}
 use borrow.Author.Needs.{needs}
 use Rattle.lunisolar.proofs.rule.leap_place.Statement.{statement}
 use Rattle.lunisolar.proofs.rule.leap_place.Tie as tie
 
 -- of a year of thirteen, the place that was found
-found : (a : tie.After-leap-to-come2) → (let s = a .before .before .before in let l = leapPlace (ruleOf (s .args .k)) (s .args .y) in Long (ruleOf (s .args .k)) (lawsOf (s .args .k) (s .pre .0)) (s .args .y) → a .before .before .third-before-leap .result + a .before .leap-to-come .result + a .leap-to-come2 .result + 1 ≡ l)
+found : (a : tie.After-leap-to-come2) → (let s = a .before .before in let l = leapPlace (ruleOf (s .args .k)) (s .args .y) in Long (ruleOf (s .args .k)) (lawsOf (s .args .k) (s .pre .0)) (s .args .y) → s .args .near + a .before .leap-to-come .result + a .leap-to-come2 .result + 1 ≡ l)
 found a c =
-    let s = a .before .before .before in
-    let l = leapPlace (ruleOf (s .args .k)) (s .args .y) in
-    let t = third-is l (c .leap .from) (c .leap .upto) in
-    rw (a .leap-to-come2 .ensures .0, a .before .leap-to-come .ensures .0, a .before .before .third-before-leap .ensures .0)
-    (place-is l (c .leap .from) (c .leap .upto) _ (t .0) (t .1))
-
-third-before-leap-requires : tie.Need-third-before-leap-requires
-third-before-leap-requires c κs = search needs
+    let s = a .before .before in
+    rw (a .leap-to-come2 .ensures .0, a .before .leap-to-come .ensures .0)
+    (place-is (leapPlace (ruleOf (s .args .k)) (s .args .y)) (s .args .near) (c .leap .from) (s .pre .3))
 
 add-leap-to-come : tie.Need-add-leap-to-come
 add-leap-to-come c = search needs
@@ -49,14 +44,14 @@ month-count-requires c κs = search needs
 
 sub-result : tie.Need-sub-result
 sub-result c =
-    let s = c .before .before .before .before in
+    let s = c .before .before .before in
     let R = ruleOf (s .args .k) in
     let L = lawsOf (s .args .k) (s .pre .0) in
     omega (arith, c .month-count .ensures, year-low R L (s .args .y), year-ends R L (s .args .y))
 
 mul-result : tie.Need-mul-result
 mul-result c =
-    let s = c .before .before .before .before in
+    let s = c .before .before .before in
     let R = ruleOf (s .args .k) in
     let L = lawsOf (s .args .k) (s .pre .0) in
     ⊎-elim
@@ -66,7 +61,7 @@ mul-result c =
 
 returns : tie.Need-returns
 returns c =
-    let s = c .before .before .before .before in
+    let s = c .before .before .before in
     let R = ruleOf (s .args .k) in
     let L = lawsOf (s .args .k) (s .pre .0) in
     ⊎-elim
@@ -78,7 +73,6 @@ pub leap-place-spec : {M : Type 1} → statement M
 leap-place-spec =
     tie.close
     (tie.spec
-    third-before-leap-requires
     add-leap-to-come
     leap-to-come-requires
     add-leap-to-come-2
