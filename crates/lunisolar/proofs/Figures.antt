@@ -1,14 +1,20 @@
 -- A month's leap mark and number as a program finds them, from the leap place or from whether the leap month has come.
 -- Assumes nothing.
 use mathlib.Core.Path.{_≡_, refl}
-use mathlib.Core.Bool.{Bool, _&&_, not}
+use mathlib.Core.Bool.{Bool, true, false, _&&_, not}
 use mathlib.Core.Logic.{⊎-elim}
 use Prim.Native.Nat.{ℕ, zero, suc, _+_, _≤_, _<_}
 use native.Mathlib.Omega.{arith}
-use lib.Dec.{leb, eqb}
-use borrow.Author.Tests.{lt-ltb, lt-leb, le-leb, ne-eqb, eq-eqb}
-use Rattle.reckoning.specs.Figures.{leapAt, leapCome, leapToCome, leapOrPast, LeapNear}
+use lib.Dec.{leb, ltb, eqb}
+use mir.Val.{boolByte}
+use borrow.Author.Tests.{lt-ltb, le-ltb, lt-leb, le-leb, ne-eqb, eq-eqb}
+use Rattle.reckoning.specs.Figures.{leapAt, leapCome, leapOrPast, LeapNear}
 use Rattle.reckoning.proofs.Searches.{le-or-lt, same-or}
+
+-- a test as a number
+pub one-at-most : (t : Bool) → boolByte t ≤ 1
+one-at-most true = omega arith
+one-at-most false = omega arith
 
 -- where a place below 13 stands to the leap place, or to 13 where there is none
 module _ (place : ℕ) (h : place < 13) where
@@ -40,17 +46,13 @@ comes-at (suc l) p =
     (same-or (suc p) (suc l)))
     (le-or-lt (suc l) p)
 
--- it is found between two looks, from a place that it comes after by three at most
-pub place-is : (leap near : ℕ) → 0 < leap → LeapNear leap near → near + leapToCome leap (near + 1) + leapToCome leap (near + 2) + 1 ≡ leap
-unfolding leapCome
+-- it is found by two looks, at a place next to it or its own and at the place before
+pub place-is : (leap near : ℕ) → 0 < leap → LeapNear leap near → near + 1 ≡ leap + boolByte (leb leap near) + boolByte (ltb leap near)
 place-is leap t some n =
-    let lo = n .1 some .0 in
-    let hi = n .1 some .1 in
-    rw (lt-ltb 0 leap some)
-    (⊎-elim
-    (λ (a : leap ≤ t + 1). rw (le-leb leap (t + 1) a, le-leb leap (t + 2) (omega arith)) (omega (arith, lo)))
-    (λ (a : t + 1 < leap). ⊎-elim
-    (λ (b : leap ≤ t + 2). rw (lt-leb leap (t + 1) a, le-leb leap (t + 2) b) (omega arith))
-    (λ (b : t + 2 < leap). rw (lt-leb leap (t + 1) a, lt-leb leap (t + 2) b) (omega (arith, hi)))
-    (le-or-lt leap (t + 2)))
-    (le-or-lt leap (t + 1)))
+    ⊎-elim
+    (λ (a : t ≤ leap). ⊎-elim
+    (λ (b : leap ≤ t). rw (le-leb leap t b, le-ltb leap t a) (omega arith))
+    (λ (b : t < leap). rw (lt-leb leap t b, le-ltb leap t a) (omega (arith, n some .1)))
+    (le-or-lt leap t))
+    (λ (a : leap < t). rw (le-leb leap t (omega arith), lt-ltb leap t a) (omega (arith, n some .0)))
+    (le-or-lt t leap)

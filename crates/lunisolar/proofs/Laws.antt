@@ -5,17 +5,17 @@ use mathlib.Core.Logic.{⊎-elim}
 use Prim.Native.Nat.{ℕ, zero, suc, _+_, _-_, _*_, _≤_, _<_}
 use native.Mathlib.Omega.{arith}
 use native.Mathlib.Nat.{mul-le-mul}
-use lib.Dec.{ltb, ltb→lt}
+use lib.Dec.{leb, ltb, ltb→lt}
 use borrow.Author.Tests.{lt-ltb, le-leb}
 use mir.Val.{boolByte}
 use Rattle.reckoning.specs.Search.{between}
 use Rattle.reckoning.specs.Rule.{monthCount, leapPlace}
 use Rattle.reckoning.specs.Figures.{leapCome}
-use Rattle.reckoning.specs.Means.{newMoon}
+use Rattle.reckoning.specs.Means.{newMoon, termDay}
 use Rattle.reckoning.proofs.Searches.{chosen, inside, between-low, between-high}
 use Rattle.reckoning.proofs.Climbs.{Climbs}
 use Rattle.reckoning.proofs.Laws.{Laws}
-use Rattle.reckoning.proofs.Days.{day-laws}
+use Rattle.reckoning.proofs.Days.{day-laws, leap-come}
 use Rattle.reckoning.proofs.Moons.{moons-climb}
 use Rattle.reckoning.proofs.Leaps.{year-high, year-ends, two-kinds, Common, Long}
 use Rattle.refusal.specs.declared.Refusal.{Refusal}
@@ -44,15 +44,17 @@ module _ (k : Constants) (s : Sound k) where
   pub count-bound : (y : ℕ) → monthCount (ruleOf k) y ≤ 13
   count-bound y = omega (arith, year-ends (ruleOf k) (lawsOf k s) y, year-high (ruleOf k) (lawsOf k s) y)
 
-  -- a year has a thirteenth month where its leap month has come by place 12
-  pub count-by : (y : ℕ) → 12 + boolByte (leapCome (leapPlace (ruleOf k) y) 12) ≡ monthCount (ruleOf k) y
+  -- a year has a thirteenth month where the next solstice falls on the first day of the month after the thirteenth or later
+  pub count-by : (y : ℕ) → 12 + boolByte (leb (newMoon (meansOf k) (ruleOf k .before y + 13)) (termDay (meansOf k) (12 * y + 12))) ≡ monthCount (ruleOf k) y
   unfolding leapCome
   count-by y =
       let l : ℕ = leapPlace (ruleOf k) y in
-      ⊎-elim
+      let e : ruleOf k .before y + 13 ≡ suc (ruleOf k .before y + 12) = omega arith in
+      rw (e, leap-come (meansOf k) (s .moon) (s .sun) y 12 (omega arith))
+      (⊎-elim
       (λ (c : Common (ruleOf k) (lawsOf k s) y). rw (c .place, c .count) refl)
       (λ (c : Long (ruleOf k) (lawsOf k s) y). rw (lt-ltb 0 l (c .leap .from), le-leb l 12 (c .leap .upto), c .count) refl)
-      (two-kinds (ruleOf k) (lawsOf k s) y)
+      (two-kinds (ruleOf k) (lawsOf k s) y))
 
   pub lunations-bound : k .lunations < 16777216
   lunations-bound = omega (arith, s .lunations, s .years, before-bound (k .years))

@@ -1,5 +1,6 @@
 // Dates and day numbers.
 use crate::Constants;
+use crate::means::month_length;
 use crate::means::new_moon_day;
 use refusal::Refusal;
 ghost use mathlib.Core.Path.{_≡_};
@@ -42,11 +43,10 @@ pub fn day_in(k: Constants, m: u64, day: u64) -> DayAnswer
     if day < 1 {
         return DayAnswer::Refused(Refusal::DayOfMonth);
     }
-    let first = new_moon_day(k, m);
-    if new_moon_day(k, m + 1) - first < day {
+    if month_length(k, m) < day {
         return DayAnswer::Refused(Refusal::DayOfMonth);
     }
-    let number = first + (day - 1);
+    let number = new_moon_day(k, m) + (day - 1);
     DayAnswer::Answered(Day {
         number,
         sexagenary: crate::sixty::sexagenary(number),

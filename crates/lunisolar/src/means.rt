@@ -1,4 +1,4 @@
-// The mean moon and sun: the day of a new moon, the month of a day, and where a middle term falls.
+// The mean moon and sun: the day of a new moon, a month's length, the month of a day, and where a middle term falls.
 use crate::Constants;
 ghost use mathlib.Core.Path.{_≡_};
 ghost use Prim.Native.Nat.{_≤_};
@@ -6,6 +6,7 @@ ghost use lib.Dec.{leb};
 ghost use Rattle.reckoning.specs.Dates.{monthOf};
 ghost use Rattle.reckoning.specs.Means.{newMoon, termDay};
 ghost use Rattle.lunisolar.specs.Calendars.{Sound, meansOf};
+ghost use Rattle.lunisolar.specs.Dates.{monthDays};
 
 // The day on which month m begins.
 pub fn new_moon_day(k: Constants, m: u64) -> u64
@@ -13,6 +14,18 @@ pub fn new_moon_day(k: Constants, m: u64) -> u64
     ensures { λ r. ⌜ r ≡ newMoon (meansOf k) m ⌝ }
 {
     m * k.month / k.day
+}
+
+// The days of month m, by its small remainder: the next new moon need not be worked out.
+pub fn month_length(k: Constants, m: u64) -> u64
+    requires { ⌜ Sound k × (m ≤ 16777216) ⌝ }
+    ensures { λ r. ⌜ r ≡ monthDays k m ⌝ }
+{
+    if 30 * k.day - k.month <= m * k.month % k.day {
+        30
+    } else {
+        29
+    }
 }
 
 // Whether middle term j, that is term j % 12 of year j / 12, falls on a day or later: nothing is divided.

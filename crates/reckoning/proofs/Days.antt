@@ -3,12 +3,13 @@
 -- Assumes nothing.
 use mathlib.Core.Path.{_≡_, refl, sym, _∙_, ap, fun-ext}
 use mathlib.Core.Logic.{⊎-elim}
+use mathlib.Core.Bool.{false}
 use Prim.Native.Nat.{ℕ, zero, suc, _+_, _-_, _*_, _/_, _≤_, _<_}
 use native.Mathlib.Omega.{arith}
 use native.Mathlib.Numerals.{add-one}
 use native.Mathlib.Nat.{add-zero, add-suc, div-add-mod', mod-lt, mul-pos}
 use borrow.Author.Tests.{le-leb, lt-leb, lt-ltb, le-ltb}
-use lib.Dec.{T, leb}
+use lib.Dec.{T, leb, ltb, leb·suc-suc}
 use Rattle.reckoning.specs.Means.{Means, newMoon, termDay, MonthBound, YearBound}
 use Rattle.reckoning.specs.Rule.{yearOf, leapPlace}
 use Rattle.reckoning.specs.Dates.{monthOf}
@@ -18,7 +19,7 @@ use Rattle.reckoning.proofs.Searches.{between-T, between-low, between-h
 use Rattle.reckoning.proofs.Climbs.{Climbs, climb-le}
 use Rattle.reckoning.proofs.Rates.{rate, rate-ge, rate-lt, rate-zero, rate-gains, rate-within}
 use Rattle.reckoning.proofs.Laws.{Laws}
-use Rattle.reckoning.proofs.Leaps.{LeapYear, past-leap}
+use Rattle.reckoning.proofs.Leaps.{LeapYear, past-leap, past-leap-in}
 use Rattle.reckoning.proofs.Rows.{year-is}
 use Rattle.reckoning.proofs.Dates.{month-is, month-from, month-to, month-under, month-over}
 use Rattle.reckoning.proofs.Moons.{moons-climb, month-short, month-long, month-of-day}
@@ -147,12 +148,9 @@ module _ (M : Means) (b : MonthBound M) (s : YearBound M) where
       (omega (arith, month-under (newMoon M) climbs (termDay M (12 * q)) (suc m) (rate-lt (M .yearNum) (12 * M .yearDen) (twelve M s) (newMoon M (suc m)) (12 * q) (omega arith))))
       (month-over (newMoon M) climbs (termDay M (12 * suc q)) m (rate-ge (M .yearNum) (12 * M .yearDen) (twelve M s) (newMoon M (suc m)) (12 * suc q) (omega arith)))
 
-  -- whether the leap month of year y stands at place p or before, by two days: term p falls on the next month's first day or later
-  pub leap-come : (y p : ℕ) → p ≤ 12 →
-      leb (newMoon M (suc (byDays M .before y + p))) (termDay M (12 * y + p)) ≡ leapCome (leapPlace (byDays M) y) p
-  leap-come y p h =
-      let m : ℕ = byDays M .before y + p in
-      let j : ℕ = 12 * y + p in
+  -- a term lies beyond a month where it falls on the next month's first day or later
+  term-beyond : (m j : ℕ) → leb (newMoon M (suc m)) (termDay M j) ≡ ltb m (day-laws .month j)
+  term-beyond m j =
       ⊎-elim
       (λ (a : newMoon M (suc m) ≤ termDay M j).
       le-leb (newMoon M (suc m)) (termDay M j) a
@@ -161,7 +159,37 @@ module _ (M : Means) (b : MonthBound M) (s : YearBound M) where
       lt-leb (newMoon M (suc m)) (termDay M j) a
       ∙ sym (le-ltb m (day-laws .month j) (rw (day-month j) (omega (arith, month-under (newMoon M) climbs (termDay M j) (suc m) a)))))
       (le-or-lt (newMoon M (suc m)) (termDay M j))
-      ∙ past-leap (byDays M) day-laws y p h
+
+  -- whether the leap month of year y stands at place p or before, by two days: term p falls on the next month's first day or later
+  pub leap-come : (y p : ℕ) → p ≤ 12 →
+      leb (newMoon M (suc (byDays M .before y + p))) (termDay M (12 * y + p)) ≡ leapCome (leapPlace (byDays M) y) p
+  leap-come y p h = term-beyond (byDays M .before y + p) (12 * y + p) ∙ past-leap (byDays M) day-laws y p h
+
+  -- in a year that has one, at any place
+  pub leap-come-in : (y p : ℕ) → 0 < leapPlace (byDays M) y →
+      leb (newMoon M (suc (byDays M .before y + p))) (termDay M (12 * y + p)) ≡ leb (leapPlace (byDays M) y) p
+  leap-come-in y p some = term-beyond (byDays M .before y + p) (12 * y + p) ∙ past-leap-in (byDays M) day-laws y p some
+
+  -- the term before the solstice falls before the year's first month
+  pub before-solstice : (y : ℕ) → 0 < 12 * y → leb (newMoon M (byDays M .before y)) (termDay M (12 * y - 1)) ≡ false
+  before-solstice y h =
+      let j : ℕ = 12 * y - 1 in
+      let m : ℕ = byDays M .before y - 1 in
+      let e : suc j ≡ 12 * y = omega arith in
+      let up = rw e at (day-laws .rise j) in
+      let n : byDays M .before y ≡ suc m = omega (arith, day-laws .opens y, up) in
+      rw n (term-beyond m j ∙ le-ltb m (day-laws .month j) (omega (arith, day-laws .opens y, up)))
+
+  -- the same of the month before place p and the term before term p, which at p = 0 are the last of the year before: whether the leap month stands
+  -- before p
+  pub leap-come-before : (y p : ℕ) → 0 < 12 * y + p → 0 < leapPlace (byDays M) y →
+      leb (newMoon M (byDays M .before y + p)) (termDay M (12 * y + p - 1)) ≡ ltb (leapPlace (byDays M) y) p
+  leap-come-before y zero h some =
+      rw (add-zero (12 * y), add-zero (byDays M .before y))
+      (before-solstice y (omega (arith, h)) ∙ sym (le-ltb (leapPlace (byDays M) y) 0 (omega arith)))
+  leap-come-before y (suc p) h some =
+      let e : 12 * y + suc p - 1 ≡ 12 * y + p = omega arith in
+      rw (e, add-suc (byDays M .before y) p, leb·suc-suc (leapPlace (byDays M) y) p) (leap-come-in y p some)
 
   -- THE TERM AFTER A LEAP MONTH FALLS ON THE FIRST OR SECOND DAY OF ITS MONTH, which is the next
   pub term-after : (y l : ℕ) → LeapYear (byDays M) day-laws y l →

@@ -7,7 +7,7 @@ use Prim.Native.Nat.{ℕ, suc, _+_, _-_, _*_, _≤_, _<_}
 use native.Mathlib.Omega.{arith}
 use native.Mathlib.Nat.{mul-suc}
 use borrow.Author.Tests.{lt-ltb, le-ltb, le-leb, lt-leb}
-use lib.Dec.{T, ltb, T-not, not-T, lt→ltb, ltb→lt}
+use lib.Dec.{T, leb, ltb, T-not, not-T, lt→ltb, ltb→lt}
 use Rattle.reckoning.specs.Search.{any}
 use Rattle.reckoning.specs.Rule.{Rule, monthCount, isLeap, leapPlace}
 use Rattle.reckoning.specs.Figures.{leapCome}
@@ -186,22 +186,29 @@ module _ (R : Rule) (L : Laws R) where
       (λ (b : R .before y + 12 < R .before (suc y)). inr (long y (omega (arith, year-high y))))
       (le-or-lt (R .before (suc y)) (R .before y + 12))
 
-  -- whether term p lies beyond the month at place p: whether the leap month stands at p or before
+  -- in a year with a leap month, term p lies beyond the month at place p from the leap place on, also past the year's end
+  pub past-leap-in : (y p : ℕ) → 0 < leapPlace R y → ltb (R .before y + p) (L .month (12 * y + p)) ≡ leb (leapPlace R y) p
+  past-leap-in y p some = ⊎-elim (λ (c : Common y). absurd (omega (arith, some, c .place))) of-long (two-kinds y)
+    where
+      of-long : Long y → ltb (R .before y + p) (L .month (12 * y + p)) ≡ leb (leapPlace R y) p
+      of-long c =
+          let l : ℕ = leapPlace R y in
+          ⊎-elim
+          (λ (a : l ≤ p).
+          let i : 12 * y + l + (p - l) ≡ 12 * y + p = omega arith in
+          let over = c .leap .late l (omega arith) (c .leap .upto) in
+          rw (le-leb l p a) (lt-ltb (R .before y + p) (L .month (12 * y + p)) (omega (arith, over, rw i at (rises-by (p - l) (12 * y + l))))))
+          (λ (a : p < l).
+          rw (lt-leb l p a) (le-ltb (R .before y + p) (L .month (12 * y + p)) (omega (arith, c .leap .early p a))))
+          (le-or-lt l p)
+
+  -- and in any year up to place 12: whether the leap month stands at p or before
   pub past-leap : (y p : ℕ) → p ≤ 12 → ltb (R .before y + p) (L .month (12 * y + p)) ≡ leapCome (leapPlace R y) p
   unfolding leapCome
-  past-leap y p h = ⊎-elim of-common of-long (two-kinds y)
-    where
-      of-common : Common y → ltb (R .before y + p) (L .month (12 * y + p)) ≡ leapCome (leapPlace R y) p
-      of-common c =
-          rw (le-ltb 0 (leapPlace R y) (omega (arith, c .place)))
-          (le-ltb (R .before y + p) (L .month (12 * y + p)) (omega (arith, term-high y p h, year-ends y, c .count)))
-
-      of-long : Long y → ltb (R .before y + p) (L .month (12 * y + p)) ≡ leapCome (leapPlace R y) p
-      of-long c =
-          rw (lt-ltb 0 (leapPlace R y) (omega (arith, c .leap .from)))
-          (⊎-elim
-          (λ (a : leapPlace R y ≤ p).
-          rw (le-leb (leapPlace R y) p a) (lt-ltb (R .before y + p) (L .month (12 * y + p)) (omega (arith, c .leap .late p a h))))
-          (λ (a : p < leapPlace R y).
-          rw (lt-leb (leapPlace R y) p a) (le-ltb (R .before y + p) (L .month (12 * y + p)) (omega (arith, c .leap .early p a))))
-          (le-or-lt (leapPlace R y) p))
+  past-leap y p h =
+      ⊎-elim
+      (λ (c : Common y).
+      rw (le-ltb 0 (leapPlace R y) (omega (arith, c .place)))
+      (le-ltb (R .before y + p) (L .month (12 * y + p)) (omega (arith, term-high y p h, year-ends y, c .count))))
+      (λ (c : Long y). rw (lt-ltb 0 (leapPlace R y) (omega (arith, c .leap .from))) (past-leap-in y p (omega (arith, c .leap .from))))
+      (two-kinds y)

@@ -15,18 +15,14 @@ leapAt leap place = ltb 0 leap && eqb place leap
 unfoldable pub leapCome : ℕ → ℕ → Bool
 leapCome leap place = ltb 0 leap && leb leap place
 
--- 1 where none stands at that place or before, as also in a year that has none, else 0
-abbrev pub leapToCome : ℕ → ℕ → ℕ
-leapToCome leap place = pick (leapCome leap place) 0 1
-
 -- the leap place, and where the year has none 13, which is past every place
 abbrev pub leapOrPast : ℕ → ℕ
 leapOrPast leap = pick (eqb leap 0) 13 leap
 
--- a place from which two looks, at the next two places and not past 12, find the leap month: where the year has one, it stands one to three
--- places after
+-- a place from which two looks, at it and at the place before, find the leap month: where the year has one, it stands there, one place before or
+-- one after
 abbrev pub LeapNear : ℕ → ℕ → Type 0
-LeapNear leap place = (place ≤ 10) × (0 < leap → (place < leap) × (leap ≤ place + 3))
+LeapNear leap place = 0 < leap → (place ≤ leap + 1) × (leap ≤ place + 1)
 
 -- the month number at that place, where the leap month has come by then or hasn't
 unfoldable pub numberBy : Bool → ℕ → ℕ

@@ -2,25 +2,24 @@
 -- Assumes nothing.
 use mathlib.Core.Path.{_≡_, sym, _∙_}
 use mathlib.Core.Logic.{⊎-elim}
-use Prim.Native.Nat.{ℕ, suc, _+_, _-_, _*_, _≤_, _<_}
+use Prim.Native.Nat.{ℕ, zero, suc, _+_, _-_, _*_, _≤_, _<_}
 use native.Mathlib.Omega.{arith}
 use lib.Dec.{leb}
-use borrow.Author.Tests.{lt-ltb, leb-true, leb-false, le-leb, lt-leb}
+use borrow.Author.Tests.{leb-true, leb-false, le-leb, lt-leb}
 use Rattle.reckoning.specs.Means.{newMoon, termDay}
 use Rattle.reckoning.specs.Rule.{leapPlace}
-use Rattle.reckoning.specs.Figures.{leapCome}
 use Rattle.reckoning.specs.Chapters.{chapterBefore, chapterRest}
 use Rattle.reckoning.proofs.Searches.{le-or-lt}
 use Rattle.reckoning.proofs.Rates.{rate}
 use Rattle.reckoning.proofs.Leaps.{two-kinds, Common, Long}
-use Rattle.reckoning.proofs.Days.{leap-come}
+use Rattle.reckoning.proofs.Days.{leap-come-in}
 use Rattle.units.specs.Xinghe.{chapterMonths, chapterYears, chapterLeaps, means, rule}
 use Rattle.units.specs.Chapter.{byChapter, leapRemainder}
 use Rattle.units.proofs.Sound.{sound, laws}
 use Rattle.units.proofs.Table.{by-chapter-near}
 
 module _ (y : ℕ) (some : 0 < leapPlace rule y) where
-  module _ (p : ℕ) (h : p ≤ 12) where
+  module _ (p : ℕ) where
     abbrev next : ℕ
     next = newMoon means (suc (rule .before y + p))
 
@@ -29,10 +28,9 @@ module _ (y : ℕ) (some : 0 < leapPlace rule y) where
 
     -- it stands at a place or before where that place's term falls on the next month's first day or later
     by-term : leb next term ≡ leb (leapPlace rule y) p
-    unfolding leapCome
-    by-term = rw (lt-ltb 0 (leapPlace rule y) some) at (leap-come means (sound .moon) (sound .sun) y p h)
+    by-term = leap-come-in means (sound .moon) (sound .sun) y p some
 
-    -- so it does where the term's instant has come by the next new moon's
+    -- so it does where the next new moon's instant has come by the term's
     come-by : 12 * (chapterYears * suc (rule .before y)) ≤ chapterLeaps * p + 12 * (chapterMonths * y) → leapPlace rule y ≤ p
     unfolding newMoon termDay rate
     come-by i = leb-true (leapPlace rule y) p (sym by-term ∙ le-leb next term (omega (arith, i)))
@@ -42,7 +40,7 @@ module _ (y : ℕ) (some : 0 < leapPlace rule y) where
     unfolding newMoon termDay rate
     not-yet i = leb-false (leapPlace rule y) p (sym by-term ∙ lt-leb next term (omega (arith, i)))
 
-  pub upto : leapPlace rule y ≤ 12
+  upto : leapPlace rule y ≤ 12
   upto =
       ⊎-elim
       (λ (c : Common rule laws y). omega (arith, some, c .place))
@@ -55,14 +53,16 @@ module _ (y : ℕ) (some : 0 < leapPlace rule y) where
   chapter-count =
       ⊎-elim
       (λ (a : rule .before y ≤ byChapter y). omega (arith, a, by-chapter-near y .0))
-      (λ (a : byChapter y < rule .before y). omega (arith, upto, not-yet 12 (omega arith) (omega (arith, a))))
+      (λ (a : byChapter y < rule .before y). omega (arith, upto, not-yet 12 (omega (arith, a))))
       (le-or-lt (rule .before y) (byChapter y))
 
   -- BY DAYS IT STANDS WHERE IT DOES BY INSTANTS, OR ONE OR TWO PLACES BEFORE
-  pub by-instants : (p : ℕ) → p + 3 ≤ 12 → 12 * (chapterYears - leapRemainder y) ≤ chapterLeaps * (p + 3) → leapPlace rule y ≤ p + 3
+  pub by-instants : (p : ℕ) → 12 * (chapterYears - leapRemainder y) ≤ chapterLeaps * p → leapPlace rule y ≤ p
   unfolding chapterBefore chapterRest
-  by-instants p h i = come-by (p + 3) h (omega (arith, chapter-count, i))
+  by-instants p i = come-by p (omega (arith, chapter-count, i))
 
-  pub not-before : (p : ℕ) → p ≤ 12 → chapterLeaps * (p + 2) < 12 * (chapterYears - leapRemainder y) → p < leapPlace rule y
+  pub not-before : (p : ℕ) → chapterLeaps * p < 12 * (chapterYears - leapRemainder y) → p ≤ leapPlace rule y + 1
   unfolding chapterBefore chapterRest
-  not-before p h i = not-yet p h (omega (arith, chapter-count, i))
+  not-before zero i = omega arith
+  not-before (suc zero) i = omega arith
+  not-before (suc (suc p)) i = omega (arith, not-yet p (omega (arith, chapter-count, i)))

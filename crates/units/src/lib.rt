@@ -12,6 +12,7 @@ ghost use Rattle.units.specs.Xinghe.{xinghe, means, rule};
 ghost use Rattle.units.specs.Chapter.{leapRemainder};
 
 pub mod chapter;
+mod entries;
 pub mod remainder;
 
 pub struct Xinghe;

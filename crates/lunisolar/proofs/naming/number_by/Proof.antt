@@ -1,17 +1,13 @@
 use native.Mathlib.Omega.{arith}
 use mathlib.Core.Path.{_≡_, _∙_}
 use mathlib.Core.Bool.{Bool, true, false}
-use Prim.Native.Nat.{ℕ, _+_, _-_, _%_, _≤_}
+use Prim.Native.Nat.{ℕ, _+_, _-_, _%_}
 use mir.Val.{boolByte}
 use Rattle.reckoning.specs.Figures.{numberBy}
+use Rattle.lunisolar.proofs.Figures.{one-at-most}
 use borrow.Author.Needs.{needs}
 use Rattle.lunisolar.proofs.naming.number_by.Statement.{statement}
 use Rattle.lunisolar.proofs.naming.number_by.Tie as tie
-
--- a test as a number
-one-at-most : (t : Bool) → boolByte t ≤ 1
-one-at-most true = omega arith
-one-at-most false = omega arith
 
 behind : (t : Bool) (place : ℕ) → (place + 10 - boolByte t) % 12 + 1 ≡ numberBy t place
 unfolding numberBy

@@ -12,7 +12,8 @@ constants-requires c κs = search needs
 leap-place-requires : tie.Need-leap-place-requires
 leap-place-requires c κs =
     let a = c .before .before in
-    rw (c .constants .ensures) (sound, a .pre .0, a .pre .1, c .before .near-leap .ensures)
+    let n = c .before .near-leap .ensures in
+    rw (c .constants .ensures) (sound, a .pre .0, a .pre .1, n .0, n .1, n .2)
 
 returns : tie.Need-returns
 returns c = rw (c .before .constants .ensures) at (c .leap-place .ensures)

@@ -1,8 +1,8 @@
 use mathlib.Core.Path.{sym}
 use Rattle.units.proofs.Table.{four-listed, last-two}
 use borrow.Author.Needs.{needs}
-use Rattle.units.proofs.chapter.four_from.Statement.{statement}
-use Rattle.units.proofs.chapter.four_from.Tie as tie
+use Rattle.units.proofs.entries.four_from.Statement.{statement}
+use Rattle.units.proofs.entries.four_from.Tie as tie
 
 element-copy-out-t7 : tie.Need-element-copy-out-t7
 element-copy-out-t7 c = search needs

@@ -3,8 +3,8 @@ use mathlib.Core.Path.{refl}
 use Rattle.reckoning.specs.Search.{listFrom}
 use Rattle.reckoning.specs.Chapters.{chapterBefore}
 use Rattle.units.specs.Chapter.{chapterTable}
-use Rattle.units.proofs.chapter.chapter_table.Statement.{statement}
-use Rattle.units.proofs.chapter.chapter_table.Tie as tie
+use Rattle.units.proofs.entries.chapter_table.Statement.{statement}
+use Rattle.units.proofs.entries.chapter_table.Tie as tie
 
 returns : tie.Need-returns
 unfolding chapterTable listFrom chapterBefore

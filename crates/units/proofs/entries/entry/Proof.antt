@@ -1,7 +1,7 @@
 use Rattle.units.proofs.Table.{among-four}
 use borrow.Author.Needs.{needs}
-use Rattle.units.proofs.chapter.entry.Statement.{statement}
-use Rattle.units.proofs.chapter.entry.Tie as tie
+use Rattle.units.proofs.entries.entry.Statement.{statement}
+use Rattle.units.proofs.entries.entry.Tie as tie
 
 four-years-requires : tie.Need-four-years-requires
 four-years-requires c κs = search needs
