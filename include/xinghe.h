@@ -59,6 +59,9 @@ enum {
     XINGHE_NAMES = 10
 };
 
+/* How many numbers the row of a month has. */
+enum { XINGHE_ROW_NUMBERS = 13 };
+
 /* A year's head. Refused: 1.
  * out[0]  months of the round before the year: those before the month whose
  *         days contain the day of its winter solstice
@@ -71,15 +74,23 @@ enum {
 uint64_t xinghe_year_head(uint64_t year, uint64_t out[6]);
 
 /* The row of the month at a place of a year. Refused: 1, 2.
- * out[0]  month of the round
- * out[1]  year
- * out[2]  place
- * out[3]  month number, 1 to 12; a leap month has that of the month before it
- * out[4]  1 for the leap month, else 0
- * out[5]  first day
- * out[6]  small remainder of the new moon, over 208,530
- * out[7]  length, 29 or 30 days */
-uint64_t xinghe_month_row(uint64_t year, uint64_t place, uint64_t out[8]);
+ * out[0]   month of the round
+ * out[1]   year
+ * out[2]   place
+ * out[3]   month number, 1 to 12; a leap month has that of the month before it
+ * out[4]   1 for the leap month, else 0
+ * out[5]   first day
+ * out[6]   small remainder of the new moon, over 208,530
+ * out[7]   length, 29 or 30 days
+ * the new moon's node and anomaly, as xinghe_nodes and xinghe_corrections have
+ * them
+ * out[8]   degrees since the last node
+ * out[9]   their remainder, over 208,530
+ * out[10]  side of the road: 0 at the node, 1 outside, 2 inside
+ * out[11]  day of the anomaly, 1 to 28
+ * out[12]  its rest, over 208,530 */
+uint64_t xinghe_month_row(uint64_t year, uint64_t place,
+                          uint64_t out[XINGHE_ROW_NUMBERS]);
 
 /* The day of a date; days of a month are counted from 1. Refused: 1, 2, 3.
  * out[0]  day number
@@ -96,7 +107,8 @@ uint64_t xinghe_date_of_day(uint64_t number, uint64_t out[3]);
 /* The row so many months on, or back where the count is negative. The row is
  * handed in as xinghe_month_row writes it. Refused: 4, 5.
  * out     the row reached, as xinghe_month_row writes it */
-uint64_t xinghe_carry(const uint64_t row[8], int64_t count, uint64_t out[8]);
+uint64_t xinghe_carry(const uint64_t row[XINGHE_ROW_NUMBERS], int64_t count,
+                      uint64_t out[XINGHE_ROW_NUMBERS]);
 
 /* A row carried by each of the counts in turn; a count that would lead outside
  * the round is passed over. Refused: 4.
@@ -105,13 +117,15 @@ uint64_t xinghe_carry(const uint64_t row[8], int64_t count, uint64_t out[8]);
  * totals[0]  1 where the sum of the answered counts is below 0, else 0
  * totals[1]  the size of that sum
  * totals[2]  how many counts were answered */
-uint64_t xinghe_walk(const uint64_t row[8], const int64_t *counts,
-                     size_t length, uint64_t out[8], uint64_t totals[3]);
+uint64_t xinghe_walk(const uint64_t row[XINGHE_ROW_NUMBERS],
+                     const int64_t *counts, size_t length,
+                     uint64_t out[XINGHE_ROW_NUMBERS], uint64_t totals[3]);
 
 /* The rows of a whole year, at the front of a lent list of `length` numbers:
- * eight numbers for each month, by place, as xinghe_month_row writes them. The
- * numbers past the rows stay as they were; refused, all of them do. 104 numbers
- * are enough for any year. Refused: 1, 6 (fewer than eight for each month). */
+ * thirteen numbers for each month, by place, as xinghe_month_row writes them.
+ * The numbers past the rows stay as they were; refused, all of them do. 169
+ * numbers are enough for any year. Refused: 1, 6 (fewer than thirteen for each
+ * month). */
 uint64_t xinghe_fill_year(uint64_t year, uint64_t *out, size_t length);
 
 /* The four phases of a month. Refused: 1, 2.

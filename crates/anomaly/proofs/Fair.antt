@@ -11,12 +11,12 @@ use lib.Dec as D
 use lib.Dec.{leb, leb→le}
 use lib.IntN.{ℤ, pos}
 use lib.ListN.{getD}
-use Rattle.reckoning.specs.Search.{pick}
-use Rattle.reckoning.proofs.Searches.{all, all-at, both-left, both-right}
+use Rattle.reckoning.specs.Search.{pick, all}
+use Rattle.reckoning.proofs.Searches.{all-at, both-left, both-right}
 use Rattle.units.specs.Xinghe.{N, C, P, T}
 use Rattle.anomaly.specs.Rates.{printed, sumOf}
 use Rattle.anomaly.specs.Amounts.{sizedOf, amountOf, raises, changed, Lowers, Day, correctionOn}
-use Rattle.anomaly.specs.Corrections.{correctionAt}
+use Rattle.anomaly.specs.Corrections.{anomalyAt, correctionAt}
 
 -- the bound on a correction of that sign
 abbrev pub limit : Bool → ℕ
@@ -58,6 +58,15 @@ anomalyDay h = h % (2 * T) / (2 * N) + 1
 abbrev anomalyRest : ℕ → ℕ
 anomalyRest h = h % (2 * T) % (2 * N)
 
+-- they are those of the whole parts and the half
+same-anomaly : (h : ℕ) → (anomalyAt h .day ≡ anomalyDay h) × (2 * anomalyAt h .rest .parts + anomalyAt h .half ≡ anomalyRest h)
+unfolding anomalyAt
+same-anomaly h = omega arith
+
+pub in-halves : (rates : List ℤ) (h : ℕ) → correctionAt rates h ≡ correctionOn rates (anomalyDay h) (anomalyRest h)
+unfolding correctionAt
+in-halves rates h = let s = same-anomaly h in rw (s .0, s .1) refl
+
 rest-longest : (h : ℕ) → anomalyRest h ≤ longest (anomalyDay h)
 rest-longest h = omega arith
 
@@ -77,9 +86,10 @@ day-at h =
 
 -- THE CORRECTION STAYS BETWEEN −83,462 AND 96,507, at every instant
 pub correction-within : (h : ℕ) → correctionAt printed h .size ≤ limit (correctionAt printed h .minus)
-unfolding correctionAt correctionOn
+unfolding correctionOn
 correction-within h =
-    within (raises (anomalyDay h)) (amountOf printed (anomalyDay h) .size) (sizedOf (getD printed (anomalyDay h - 1) (pos 0)) .size) (longest (anomalyDay h)) (limit (amountOf printed (anomalyDay h) .minus)) (anomalyRest h) (fair-at h) (rest-longest h)
+    rw (in-halves printed h)
+    (within (raises (anomalyDay h)) (amountOf printed (anomalyDay h) .size) (sizedOf (getD printed (anomalyDay h - 1) (pos 0)) .size) (longest (anomalyDay h)) (limit (amountOf printed (anomalyDay h) .minus)) (anomalyRest h) (fair-at h) (rest-longest h))
 
 limit-most : (b : Bool) → limit b ≤ 96507
 limit-most true = omega arith
@@ -90,7 +100,7 @@ size-most h = omega (arith, correction-within h, limit-most (correctionAt printe
 
 -- at the origin it is 0, so no phase is moved to before the origin
 origin : correctionAt printed 0 .size ≡ 0
-unfolding correctionAt correctionOn amountOf sumOf
+unfolding anomalyAt correctionAt correctionOn amountOf sumOf
 origin = refl
 
 pub not-before : (k : ℕ) → correctionAt printed (k * P) .size ≤ k * P / 2

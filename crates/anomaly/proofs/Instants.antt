@@ -16,11 +16,6 @@ use Rattle.anomaly.specs.declared.Corrected.{Corrected}
 use Rattle.anomaly.proofs.Moves.{later-is, earlier-is}
 use Rattle.anomaly.proofs.Fair.{limit, correction-within, size-most, not-before}
 
--- the correction is worked out for the day and the rest that are answered
-pub same-anomaly : (h : ℕ) → (anomalyAt h .day ≡ h % (2 * T) / (2 * N) + 1) × (2 * anomalyAt h .rest .parts + anomalyAt h .half ≡ h % (2 * T) % (2 * N))
-unfolding anomalyAt
-same-anomaly h = omega arith
-
 -- THE NEW MOON'S ANOMALY is the whole m·P mod T, with no half
 pub anomaly-whole : (m : ℕ) → (correctionsOf m .new .anomaly .day ≡ m * P % T / N + 1) × (correctionsOf m .new .anomaly .rest .parts ≡ m * P % T % N) × (correctionsOf m .new .anomaly .half ≡ 0)
 unfolding correctionsOf correctedAt anomalyAt

@@ -3,3 +3,4 @@ pub mod Sums
 pub mod Moves
 pub mod Fair
 pub mod Instants
+pub mod Steps

@@ -17,14 +17,21 @@ use Rattle.anomaly.specs.declared.Anomaly.{Anomaly}
 use Rattle.anomaly.specs.declared.Corrected.{Corrected}
 use Rattle.anomaly.specs.declared.Corrections.{Corrections}
 
+-- the new moon of month m lies at 2·m half months, the full moon one later: their instants in halves
+abbrev pub newMoonAt : ℕ → ℕ
+newMoonAt m = 2 * m * P
+
+abbrev pub fullMoonAt : ℕ → ℕ
+fullMoonAt m = (2 * m + 1) * P
+
 -- the rest of an instant mod T: whole days from 1, whole parts, and the half
 unfoldable pub anomalyAt : ℕ → Anomaly
 anomalyAt h =
     record { day = h % (2 * T) / 2 / N + 1; rest = record { parts = h % (2 * T) / 2 % N }; half = h % (2 * T) % 2 }
 
--- the correction at an instant, by the day and the rest of its anomaly
+-- the correction at an instant, by the day and the rest of its anomaly, the rest in halves
 unfoldable pub correctionAt : List ℤ → ℕ → Amount
-correctionAt rates h = correctionOn rates (h % (2 * T) / (2 * N) + 1) (h % (2 * T) % (2 * N))
+correctionAt rates h = correctionOn rates (anomalyAt h .day) (2 * anomalyAt h .rest .parts + anomalyAt h .half)
 
 -- a day and remainder, so many parts later or earlier: the day moves by one where the remainder leaves its range
 abbrev at : ℕ → ℕ → DayCarry
@@ -40,7 +47,7 @@ earlier day r c = pick (leb c r) (at day (r - c)) (at (day - 1) (r + N - c))
 unfoldable pub moved : ℕ → DayRemainder → Amount → DayCarry
 moved day r k = pick (k .minus) (later day (r .parts) (k .size)) (earlier day (r .parts) (k .size))
 
--- a remainder over N, and a correction of less than a day that doesn't lead to before the origin
+-- a remainder over N, and a correction of at most a day that doesn't lead to before the origin
 pub record CorrectionBound (day : ℕ) (r : DayRemainder) (k : Amount) : Type 0 where
   pub day-bound : day < 4294967296
   pub remainder : r .parts < N
@@ -61,6 +68,5 @@ correctedAt h =
       half = h % 2;
     }
 
--- the new moon of month m lies at 2·m half months, the full moon one later
 unfoldable pub correctionsOf : ℕ → Corrections
-correctionsOf m = record { new = correctedAt (2 * m * P); full = correctedAt ((2 * m + 1) * P) }
+correctionsOf m = record { new = correctedAt (newMoonAt m); full = correctedAt (fullMoonAt m) }

@@ -1,3 +1,4 @@
 pub mod Rates
 pub mod Amounts
 pub mod Corrections
+pub mod Steps

@@ -5,9 +5,10 @@ use units::remainder::DayCarry;
 use units::remainder::DayRemainder;
 ghost use mathlib.Core.Path.{_≡_};
 ghost use Prim.Native.Nat.{_+_, _*_, _<_};
-ghost use Rattle.units.specs.Xinghe.{P};
+ghost use Rattle.units.specs.Xinghe.{P, T, roundMonths};
 ghost use Rattle.anomaly.specs.Rates.{printed};
 ghost use Rattle.anomaly.specs.Corrections.{CorrectionBound, anomalyAt, correctionAt, moved, correctedAt, correctionsOf};
+ghost use Rattle.anomaly.specs.Steps.{intoAnomaly, nextInto};
 use crate::amounts::Amount;
 
 pub mod amounts;
@@ -77,6 +78,41 @@ fn anomaly_at(instant: u64) -> Anomaly
         day: carried.whole + 1,
         rest,
         half: into % 2,
+    }
+}
+
+// How far a new moon is in the round of the anomaly, held in 32 bits, in which a division is shorter.
+pub fn into_anomaly(lunation: u64) -> u32
+    requires { ⌜ lunation < roundMonths ⌝ }
+    ensures { λ r. ⌜ r ≡ intoAnomaly lunation ⌝ }
+{
+    (lunation * Xinghe::P % Xinghe::T) as u32
+}
+
+// The next new moon's: P more, which is a round and less than another.
+pub fn next_into(into: u32) -> u32
+    requires { ⌜ into < T ⌝ }
+    ensures { λ r. ⌜ r ≡ nextInto into ⌝ }
+{
+    let sum = into + (Xinghe::P - Xinghe::T) as u32;
+    if Xinghe::T as u32 <= sum {
+        sum - Xinghe::T as u32
+    } else {
+        sum
+    }
+}
+
+// The anomaly of a new moon that is so far in the round.
+pub fn anomaly_in(into: u32) -> Anomaly
+    requires { ⌜ into < T ⌝ }
+    ensures { λ r. ⌜ r ≡ anomalyAt (2 * into) ⌝ }
+{
+    let carried = DayRemainder { parts: 0 }.carry(into as u64);
+    let rest = carried.remainder;
+    Anomaly {
+        day: carried.whole + 1,
+        rest,
+        half: 0,
     }
 }
 

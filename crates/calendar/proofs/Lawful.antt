@@ -1,55 +1,68 @@
 -- The months of the round keep the laws that walks ask, so every theorem of the crate `walking` holds of them.
 -- Assumes nothing.
-use mathlib.Core.Path.{_≡_, refl, sym}
-use mathlib.Core.Bool.{Bool, true, false, Bool·beq}
-use borrow.Author.Tests.{eq-eqb, eqb-true}
+use mathlib.Core.Path.{_≡_, _∙_, refl, sym, ap}
+use mathlib.Core.Bool.{Bool, true, false}
 use Prim.Native.Nat.{ℕ}
-use lib.Dec.{eqb}
+use native.Mathlib.Omega.{arith}
+use borrow.Author.Tests.{eq-eqb}
+use lib.Dec.{eqb, eqb→eq}
+use lib.ListN.{getD}
+use Rattle.reckoning.specs.Search.{pick}
+use Rattle.reckoning.proofs.Searches.{all-at}
 use Rattle.walking.specs.Walk.{Answer, answered, refused}
-use Rattle.walking.proofs.Walks.{Lawful, and-both}
+use Rattle.walking.proofs.Walks.{Lawful}
 use Rattle.refusal.specs.declared.Refusal.{Refusal}
-use Rattle.calendar.specs.Rows.{rowOf}
-use Rattle.calendar.specs.Carries.{sameRow, months, shown}
+use Rattle.node.specs.Sides.{sideNumber}
+use Rattle.node.specs.declared.Side.{Side}
+use Rattle.calendar.specs.Rows.{bitOf, fieldCount, rowFields, rowOf}
+use Rattle.calendar.specs.Carries.{sameFields, months, shown}
 use Rattle.calendar.specs.declared.MonthRow.{MonthRow}
 use Rattle.calendar.specs.declared.RowAnswer.{RowAnswer}
 
--- each kind of field: its test holds of a value and itself, and of no two others
+-- a field that is no number is told by its number
+bit-eq : (a b : Bool) → bitOf a ≡ bitOf b → a ≡ b
+bit-eq a b e = told a ∙ ap (λ (n : ℕ). eqb n 1) e ∙ sym (told b)
+  where
+    told : (b : Bool) → b ≡ eqb (bitOf b) 1
+    told true = refl
+    told false = refl
+
+side-eq : (s t : Side) → sideNumber s ≡ sideNumber t → s ≡ t
+side-eq s t e = told s ∙ ap numbered e ∙ sym (told t)
+  where
+    numbered : ℕ → Side
+    numbered n = pick (eqb n 0) Side.AtNode (pick (eqb n 1) Side.Outside Side.Inside)
+
+    told : (s : Side) → s ≡ numbered (sideNumber s)
+    told Side.AtNode = refl
+    told Side.Outside = refl
+    told Side.Inside = refl
+
 eqb-same : (n : ℕ) → eqb n n ≡ true
 eqb-same n = eq-eqb n n refl
 
-beq-same : (b : Bool) → Bool·beq b b ≡ true
-beq-same true = refl
-beq-same false = refl
+same-refl : (r : MonthRow) → months .same r r ≡ true
+unfolding sameFields
+same-refl r = simp eqb-same
 
-beq-eq : (a b : Bool) → Bool·beq a b ≡ true → a ≡ b
-beq-eq true true e = refl
-beq-eq true false e = sym e
-beq-eq false true e = e
-beq-eq false false e = refl
-
-same-refl : (r : MonthRow) → sameRow r r ≡ true
-unfolding sameRow
-same-refl r = simp (eqb-same, beq-same)
-
-same-eq : (r s : MonthRow) → sameRow r s ≡ true → r ≡ s
-unfolding sameRow
+same-eq : (r s : MonthRow) → months .same r s ≡ true → r ≡ s
+unfolding sameFields
 same-eq r s e =
-    let length = and-both _ _ e in
-    let parts = and-both _ _ (length .0) in
-    let day = and-both _ _ (parts .0) in
-    let leap = and-both _ _ (day .0) in
-    let number = and-both _ _ (leap .0) in
-    let place = and-both _ _ (number .0) in
-    let year = and-both _ _ (place .0) in
+    let at = all-at (λ (i : ℕ). eqb (getD (rowFields r) i 0) (getD (rowFields s) i 0)) fieldCount (rw e tt) in
     λ i. record {
-      lunation = eqb-true (r .lunation) (s .lunation) (year .0) i;
-      year = eqb-true (r .year) (s .year) (year .1) i;
-      place = eqb-true (r .place) (s .place) (place .1) i;
-      number = eqb-true (r .number) (s .number) (number .1) i;
-      leap = beq-eq (r .leap) (s .leap) (leap .1) i;
-      day = eqb-true (r .day) (s .day) (day .1) i;
-      remainder = record { parts = eqb-true (r .remainder .parts) (s .remainder .parts) (parts .1) i };
-      length = eqb-true (r .length) (s .length) (length .1) i;
+      lunation = eqb→eq (r .lunation) (s .lunation) (at 0 (omega arith)) i;
+      year = eqb→eq (r .year) (s .year) (at 1 (omega arith)) i;
+      place = eqb→eq (r .place) (s .place) (at 2 (omega arith)) i;
+      number = eqb→eq (r .number) (s .number) (at 3 (omega arith)) i;
+      leap = bit-eq (r .leap) (s .leap) (eqb→eq (bitOf (r .leap)) (bitOf (s .leap)) (at 4 (omega arith))) i;
+      day = eqb→eq (r .day) (s .day) (at 5 (omega arith)) i;
+      remainder = record { parts = eqb→eq (r .remainder .parts) (s .remainder .parts) (at 6 (omega arith)) i };
+      length = eqb→eq (r .length) (s .length) (at 7 (omega arith)) i;
+      degrees = eqb→eq (r .degrees) (s .degrees) (at 8 (omega arith)) i;
+      residue = record { parts = eqb→eq (r .residue .parts) (s .residue .parts) (at 9 (omega arith)) i };
+      side = side-eq (r .side) (s .side) (eqb→eq (sideNumber (r .side)) (sideNumber (s .side)) (at 10 (omega arith))) i;
+      anomaly = eqb→eq (r .anomaly) (s .anomaly) (at 11 (omega arith)) i;
+      rest = record { parts = eqb→eq (r .rest .parts) (s .rest .parts) (at 12 (omega arith)) i };
     }
 
 pub lawful : Lawful months

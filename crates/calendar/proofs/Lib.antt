@@ -1,6 +1,9 @@
 pub mod Round
+pub mod Steps
 pub mod LeapMonths
 pub mod Months
 pub mod Days
+pub mod Eras
 pub mod Refusals
 pub mod Lawful
+pub mod HandedIn

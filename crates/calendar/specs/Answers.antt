@@ -3,6 +3,7 @@
 use mathlib.Core.Bool.{false}
 use Prim.Native.Nat.{ℕ}
 use Rattle.refusal.specs.Numbers.{numberOf}
+use Rattle.node.specs.declared.Side.{Side}
 use Rattle.calendar.specs.declared.YearHead.{YearHead}
 use Rattle.calendar.specs.declared.HeadAnswer.{HeadAnswer}
 use Rattle.calendar.specs.declared.MonthRow.{MonthRow}
@@ -24,7 +25,22 @@ rowNumber (RowAnswer.Answered row) = 0
 rowNumber (RowAnswer.Refused e) = numberOf e
 
 abbrev pub zeroRow : MonthRow
-zeroRow = record { lunation = 0; year = 0; place = 0; number = 0; leap = false; day = 0; remainder = record { parts = 0 }; length = 0 }
+zeroRow =
+    record {
+      lunation = 0;
+      year = 0;
+      place = 0;
+      number = 0;
+      leap = false;
+      day = 0;
+      remainder = record { parts = 0 };
+      length = 0;
+      degrees = 0;
+      residue = record { parts = 0 };
+      side = Side.AtNode;
+      anomaly = 0;
+      rest = record { parts = 0 };
+    }
 
 abbrev pub rowValues : RowAnswer → MonthRow
 rowValues (RowAnswer.Answered row) = row

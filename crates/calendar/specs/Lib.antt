@@ -1,4 +1,5 @@
 pub mod Heads
+pub mod Elements
 pub mod Rows
 pub mod Dates
 pub mod Answers

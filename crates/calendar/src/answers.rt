@@ -3,6 +3,7 @@ use crate::HeadAnswer;
 use crate::MonthRow;
 use crate::RowAnswer;
 use crate::YearHead;
+use node::Side;
 use sun::Solstice;
 use units::remainder::DayRemainder;
 use units::remainder::DegreeRemainder;
@@ -79,6 +80,11 @@ impl MonthRow {
             day: 0,
             remainder: DayRemainder { parts: 0 },
             length: 0,
+            degrees: 0,
+            residue: DayRemainder { parts: 0 },
+            side: Side::AtNode,
+            anomaly: 0,
+            rest: DayRemainder { parts: 0 },
         }
     }
 }

@@ -1,78 +1,61 @@
 // A row carried by a signed count of months.
 use crate::MonthRow;
 use crate::RowAnswer;
+use crate::rows::FIELDS;
+use crate::rows::RowFields;
 use refusal::Refusal;
 use units::Xinghe;
 use walking::Target;
 ghost use mathlib.Core.Path.{_≡_};
-ghost use Prim.Native.Nat.{_<_};
 ghost use lib.IntN.{pos, negsuc};
-ghost use Rattle.reckoning.specs.Search.{pick};
-ghost use Rattle.refusal.specs.declared.Refusal.{Refusal};
-ghost use Rattle.units.specs.Xinghe.{roundMonths};
-ghost use Rattle.walking.specs.Walk.{genuine};
-ghost use Rattle.calendar.specs.Rows.{rowOf};
-ghost use Rattle.calendar.specs.Carries.{sameRow, months, carried};
-ghost use Rattle.calendar.specs.declared.RowAnswer.{RowAnswer};
+ghost use Rattle.calendar.specs.Carries.{sameFields, carried, genuineFields, carriedFields};
 
-// Whether two rows are the same in every field.
-pub fn same_row(a: MonthRow, b: MonthRow) -> bool
-    ensures { λ r. ⌜ r ≡ sameRow a b ⌝ }
+// Whether two rows have the same number at each place.
+fn same_fields(a: &RowFields, b: &RowFields) -> bool
+    ensures { λ r. ⌜ r ≡ sameFields (now (a .entry)) (now (b .entry)) ⌝ }
 {
-    let p = a.remainder;
-    let q = b.remainder;
-    (a.lunation == b.lunation)
-        & (a.year == b.year)
-        & (a.place == b.place)
-        & (a.number == b.number)
-        & (a.leap == b.leap)
-        & (a.day == b.day)
-        & (p.parts == q.parts)
-        & (a.length == b.length)
+    let mut same = true;
+    let mut i = 0;
+    while i < FIELDS {
+        same = (a[i] == b[i]) & same;
+        i += 1;
+    }
+    same
+}
+
+// Whether a row is that of the month of the round that it names.
+pub fn is_genuine(fields: &RowFields) -> bool
+    ensures { λ r. ⌜ r ≡ genuineFields (now (fields .entry)) ⌝ }
+{
+    let m = fields[0];
+    if Xinghe::MONTHS <= m {
+        return false;
+    }
+    let own = crate::rows::row_of(m).fields();
+    same_fields(fields, &own)
+}
+
+// The row so many months on, or back, of a row handed in as numbers.
+pub fn carry_fields(fields: &RowFields, count: i64) -> RowAnswer
+    ensures { λ r. ⌜ r ≡ carriedFields (now (fields .entry)) count ⌝ }
+{
+    if is_genuine(fields) {
+        match walking::reach(Xinghe::MONTHS, fields[0], count) {
+            Target::Month(k) => RowAnswer::Answered(crate::rows::row_of(k)),
+            Target::Outside => RowAnswer::Refused(Refusal::Carry),
+        }
+    } else {
+        RowAnswer::Refused(Refusal::Row)
+    }
 }
 
 impl MonthRow {
-    // Whether the row is that of the month of the round that it names.
-    pub fn is_genuine(self) -> bool
-        ensures { λ r. ⌜ r ≡ genuine months self ⌝ }
-    {
-        let m = self.lunation;
-        if Xinghe::MONTHS <= m {
-            return false;
-        }
-        same_row(self, crate::rows::row_of(m))
-    }
-
-    // The row of month `to`, if this row is genuine, and else refusal 4.
-    pub fn moved_to(self, to: u64) -> RowAnswer
-        requires { ⌜ to < roundMonths ⌝ }
-        ensures { λ r. ⌜ r ≡ pick (genuine months self) (RowAnswer.Answered (rowOf to)) (RowAnswer.Refused Refusal.Row) ⌝ }
-    {
-        if self.is_genuine() {
-            RowAnswer::Answered(crate::rows::row_of(to))
-        } else {
-            RowAnswer::Refused(Refusal::Row)
-        }
-    }
-
     // The row so many months on, or back.
     pub fn carry(self, count: i64) -> RowAnswer
         ensures { λ r. ⌜ r ≡ carried self count ⌝ }
     {
-        let m = self.lunation;
-        if Xinghe::MONTHS <= m {
-            return RowAnswer::Refused(Refusal::Row);
-        }
-        match walking::reach(Xinghe::MONTHS, m, count) {
-            Target::Month(k) => self.moved_to(k),
-            Target::Outside => {
-                if self.is_genuine() {
-                    RowAnswer::Refused(Refusal::Carry)
-                } else {
-                    RowAnswer::Refused(Refusal::Row)
-                }
-            }
-        }
+        let fields = self.fields();
+        carry_fields(&fields, count)
     }
 
     pub fn next(self) -> RowAnswer

@@ -61,24 +61,31 @@ fn ask_carries() {
     questions::ask_carry(0, -1);
     questions::ask_carry(0, i64::MAX);
     questions::ask_carry(12511799, i64::MIN);
+    questions::ask_carry(2085299, 1);
+    questions::ask_carry(2085300, -1);
+    questions::ask_carry(4170600, 0);
+    questions::ask_carry(3636238, -3636238);
 }
 
 fn ask_steps() {
     questions::ask_next(0);
     questions::ask_next(36);
     questions::ask_next(2085299);
+    questions::ask_next(4170599);
     questions::ask_next(12511798);
     questions::ask_next(12511799);
     questions::ask_back(0);
     questions::ask_back(1);
     questions::ask_back(37);
     questions::ask_back(2085300);
+    questions::ask_back(4170600);
     questions::ask_back(12511799);
 }
 
 fn ask_forged() {
-    questions::ask_forged(0, 0);
-    questions::ask_forged(12511799, 1);
+    questions::ask_forged_fields(0, 0);
+    questions::ask_forged_fields(12511799, 1);
+    questions::ask_forged_fields(3636238, 0);
     questions::ask_forged_steps(5);
 }
 

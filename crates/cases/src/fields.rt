@@ -3,6 +3,7 @@ use anomaly::Anomaly;
 use anomaly::Corrected;
 use calendar::MonthRow;
 use calendar::YearHead;
+use calendar::rows::FIELDS;
 use lines::Line;
 use lunisolar::dates::Day;
 use moon::phases::Phase;
@@ -24,28 +25,16 @@ pub fn with_head(line: Line, head: YearHead) -> Line {
         .number(remainder.parts)
 }
 
+// A row is handed to others as the numbers of its fields.
 pub fn with_row(line: Line, row: MonthRow) -> Line {
-    let remainder = row.remainder;
-    line.number(row.lunation)
-        .number(row.number)
-        .leap_mark(row.leap)
-        .number(row.day)
-        .number(lunisolar::sixty::sexagenary(row.day))
-        .number(remainder.parts)
-        .number(row.length)
-}
-
-// A carry may end in another year: its row names its year and place, where a row that was asked for does not.
-pub fn with_carried_row(line: Line, row: MonthRow) -> Line {
-    let remainder = row.remainder;
-    line.number(row.lunation)
-        .number(row.year)
-        .number(row.place)
-        .number(row.number)
-        .leap_mark(row.leap)
-        .number(row.day)
-        .number(remainder.parts)
-        .number(row.length)
+    let numbers = row.fields();
+    let mut text = line;
+    let mut i = 0;
+    while i < FIELDS {
+        text = text.number(numbers[i]);
+        i += 1;
+    }
+    text
 }
 
 fn with_phase(line: Line, phase: Phase) -> Line {

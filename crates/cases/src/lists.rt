@@ -29,7 +29,7 @@ fn write_lent(rows: [MonthRow; 13], have: usize)
     let mut i = 0;
     while i < have {
         let row = rows[i];
-        fields::with_carried_row(Line::new().text(b"lent").number(i as u64), row).write();
+        fields::with_row(Line::new().text(b"lent").number(i as u64), row).write();
         i += 1;
     }
 }

@@ -3,6 +3,7 @@ use crate::fields;
 use calendar::HeadAnswer;
 use calendar::MonthRow;
 use calendar::RowAnswer;
+use calendar::rows::FIELDS;
 use ephemeris::CorrectionsAnswer;
 use ephemeris::NodesAnswer;
 use ephemeris::PhasesAnswer;
@@ -13,6 +14,7 @@ use lunisolar::dates::DayAnswer;
 use units::remainder::DayRemainder;
 ghost use Prim.Native.Nat.{_<_};
 ghost use Rattle.units.specs.Xinghe.{roundMonths};
+ghost use Rattle.calendar.specs.Rows.{fieldCount};
 
 fn asked_of_month(question: &[u8], year: u64, place: u64) -> Line {
     Line::new().text(question).number(year).number(place)
@@ -29,7 +31,9 @@ pub fn ask_head(year: u64) {
 pub fn ask_row(year: u64, place: u64) {
     let line = asked_of_month(b"row", year, place);
     match calendar::rows::month_row(year, place) {
-        RowAnswer::Answered(row) => fields::with_row(line, row).write(),
+        RowAnswer::Answered(row) => fields::with_row(line, row)
+            .number(lunisolar::sixty::sexagenary(row.day))
+            .write(),
         RowAnswer::Refused(refusal) => line.refuse(refusal),
     }
 }
@@ -101,7 +105,7 @@ pub fn ask_date(number: u64) {
 
 fn write_carried(line: Line, answer: RowAnswer) {
     match answer {
-        RowAnswer::Answered(row) => fields::with_carried_row(line.text(b" ->"), row).write(),
+        RowAnswer::Answered(row) => fields::with_row(line.text(b" ->"), row).write(),
         RowAnswer::Refused(refusal) => line.refuse(refusal),
     }
 }
@@ -128,7 +132,38 @@ pub fn ask_back(lunation: u64)
     write_carried(line, calendar::rows::row_of(lunation).back());
 }
 
-// A row with one field changed, which no carry and no step may take.
+fn write_forged(line: Line, answer: RowAnswer) {
+    match answer {
+        RowAnswer::Answered(_) => line.text(b" taken").write(),
+        RowAnswer::Refused(refusal) => line.refuse(refusal),
+    }
+}
+
+// A row with one number changed, which no carry may take.
+fn ask_forged(lunation: u64, field: usize, count: i64)
+    requires { ⌜ (lunation < roundMonths) × (field < fieldCount) ⌝ }
+{
+    let mut numbers = calendar::rows::row_of(lunation).fields();
+    numbers[field] = std::num::wrapping_add_u64(numbers[field], 1);
+    let line = Line::new()
+        .text(b"forged")
+        .number(lunation)
+        .number(field as u64)
+        .signed(count);
+    write_forged(line, calendar::carries::carry_fields(&numbers, count));
+}
+
+pub fn ask_forged_fields(lunation: u64, count: i64)
+    requires { ⌜ lunation < roundMonths ⌝ }
+{
+    let mut field = 0;
+    while field < FIELDS {
+        ask_forged(lunation, field, count);
+        field += 1;
+    }
+}
+
+// A row whose small remainder is changed, which no step may take.
 fn forged_row(lunation: u64) -> MonthRow
     requires { ⌜ lunation < roundMonths ⌝ }
 {
@@ -139,20 +174,6 @@ fn forged_row(lunation: u64) -> MonthRow
     };
     row.remainder = changed;
     row
-}
-
-fn write_forged(line: Line, answer: RowAnswer) {
-    match answer {
-        RowAnswer::Answered(_) => line.text(b" taken").write(),
-        RowAnswer::Refused(refusal) => line.refuse(refusal),
-    }
-}
-
-pub fn ask_forged(lunation: u64, count: i64)
-    requires { ⌜ lunation < roundMonths ⌝ }
-{
-    let line = Line::new().text(b"forged").number(lunation).signed(count);
-    write_forged(line, forged_row(lunation).carry(count));
 }
 
 pub fn ask_forged_steps(lunation: u64)

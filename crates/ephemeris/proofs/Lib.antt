@@ -1,3 +1,4 @@
 pub mod Points
 pub mod Refusals
 pub mod Moons
+pub mod Rows

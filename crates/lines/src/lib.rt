@@ -60,14 +60,6 @@ impl Line {
         }
     }
 
-    pub fn leap_mark(self, leap: bool) -> Self {
-        if leap {
-            self.text(b" L")
-        } else {
-            self.text(b" -")
-        }
-    }
-
     // Ends and writes the line.
     pub fn write(self) {
         let ended = self.byte(b'\n');

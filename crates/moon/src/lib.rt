@@ -3,7 +3,8 @@ use units::Xinghe;
 use units::remainder::DayRemainder;
 ghost use mathlib.Core.Path.{_≡_};
 ghost use Prim.Native.Nat.{_<_};
-ghost use Rattle.moon.specs.NewMoons.{newMoonOf, lengthOf};
+ghost use Rattle.units.specs.Xinghe.{N};
+ghost use Rattle.moon.specs.NewMoons.{newMoonOf, lengthOf, monthlyAddition};
 
 pub mod phases;
 
@@ -33,5 +34,20 @@ pub fn length_of(remainder: DayRemainder) -> u64
         30
     } else {
         29
+    }
+}
+
+impl NewMoon {
+    // The next new moon, by the monthly addition: a month's length later, and by what a month has over so many days.
+    pub fn next(self) -> NewMoon
+        requires { ⌜ (self .day < 4294967296) × (self .remainder .parts < N) ⌝ }
+        ensures { λ r. ⌜ r ≡ monthlyAddition self ⌝ }
+    {
+        let length = length_of(self.remainder);
+        let parts = self.remainder.parts + Xinghe::P - length * Xinghe::N;
+        NewMoon {
+            day: self.day + length,
+            remainder: DayRemainder { parts },
+        }
     }
 }

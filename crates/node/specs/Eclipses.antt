@@ -14,6 +14,13 @@ use Rattle.node.specs.declared.Node.{Node}
 unfoldable pub distanceOf : ℕ → Distance
 distanceOf h = record { degrees = h / 2 / N; remainder = record { parts = h / 2 % N }; half = h % 2 }
 
+-- x = m·P mod M, the distance since the last node at the new moon of month m: in parts, and in degrees and remainder
+abbrev pub sinceNode : ℕ → ℕ
+sinceNode m = m * P % M
+
+abbrev pub distance : ℕ → Distance
+distance m = distanceOf (2 * sinceNode m)
+
 -- an eclipse h halves from the node: its size is 15 less the whole degrees of the distance
 unfoldable pub eclipseAt : ℕ → Eclipse
 eclipseAt h = record { marked = true; distance = distanceOf h; size = 15 - distanceOf h .degrees }

@@ -1,3 +1,4 @@
 pub mod Eclipses
 pub mod Sides
 pub mod Nodes
+pub mod Passages

@@ -6,14 +6,20 @@ use lib.Dec.{eqb}
 use lib.ListN.{getD}
 use Rattle.reckoning.specs.Search.{pick}
 use Rattle.units.specs.Xinghe.{N, P, M, eraMonths}
+use Rattle.node.specs.Eclipses.{sinceNode}
 use Rattle.node.specs.declared.Side.{Side}
-use Rattle.node.specs.declared.Head.{Head}
 
 -- the side as a number, 0 at the node, 1 outside, 2 inside: so lists and lines have it
 abbrev pub sideNumber : Side → ℕ
 sideNumber Side.AtNode = 0
 sideNumber Side.Outside = 1
 sideNumber Side.Inside = 2
+
+-- the distance in degrees and remainder, and the side, with which an era begins
+pub record Head : Type 0 where
+  pub degrees : ℕ
+  pub remainder : ℕ
+  pub side : Side
 
 abbrev head : ℕ → ℕ → Side → Head
 head degrees remainder side = record { degrees = degrees; remainder = remainder; side = side }
@@ -36,18 +42,22 @@ headIn e = getD heads e (head 0 0 Side.AtNode)
 abbrev pub ownHead : ℕ → Head
 ownHead m = headIn (m / eraMonths)
 
-abbrev pub distance : Head → ℕ
-distance h = h .degrees * N + h .remainder
+abbrev pub headDistance : Head → ℕ
+headDistance h = h .degrees * N + h .remainder
 
 -- the whole M's, where P is added to the head's distance for each month since
 unfoldable pub passed : ℕ → ℕ
-passed m = (distance (ownHead m) + m % eraMonths * P) / M
+passed m = (headDistance (ownHead m) + m % eraMonths * P) / M
 
 abbrev pub turned : Side → Side
 turned Side.AtNode = Side.AtNode
 turned Side.Outside = Side.Inside
 turned Side.Inside = Side.Outside
 
--- distance exactly 0 is at the node; an even count of whole M's leaves the head's side, an odd one turns it
+-- an even count of whole M's leaves the head's side, an odd one turns it
+abbrev pub countedSide : ℕ → Side
+countedSide m = pick (eqb (passed m % 2) 0) (ownHead m .side) (turned (ownHead m .side))
+
+-- distance exactly 0 is at the node
 unfoldable pub sideOf : ℕ → Side
-sideOf m = pick (eqb (m * P % M) 0) Side.AtNode (pick (eqb (passed m % 2) 0) (ownHead m .side) (turned (ownHead m .side)))
+sideOf m = pick (eqb (sinceNode m) 0) Side.AtNode (countedSide m)

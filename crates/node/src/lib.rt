@@ -6,8 +6,10 @@ ghost use mathlib.Core.Path.{_≡_};
 ghost use Prim.Native.Nat.{_*_, _<_};
 ghost use Rattle.units.specs.Xinghe.{N, M, roundMonths};
 ghost use Rattle.node.specs.Eclipses.{distanceOf, eclipseAt, eclipseOf, nodeAt};
-ghost use Rattle.node.specs.Sides.{sideNumber, turned, sideOf};
+ghost use Rattle.node.specs.Sides.{sideNumber};
 ghost use Rattle.node.specs.Nodes.{nodesOf};
+
+pub mod passages;
 
 // Which side of the road the moon stands on (表裏).
 pub enum Side {
@@ -55,47 +57,6 @@ pub struct Nodes {
     pub side: Side,
     pub full: Node,
 }
-
-// The distance and the side with which an era begins.
-pub struct Head {
-    pub degrees: u32,
-    pub remainder: u32,
-    pub side: Side,
-}
-
-// The heads of the eras jiazi, jiaxu, jiashen, jiawu, jiachen and jiayin, as 000 prints them.
-const HEADS: [Head; 6] = [
-    Head {
-        degrees: 0,
-        remainder: 0,
-        side: Side::Outside,
-    },
-    Head {
-        degrees: 127,
-        remainder: 39339,
-        side: Side::Outside,
-    },
-    Head {
-        degrees: 81,
-        remainder: 11561,
-        side: Side::Inside,
-    },
-    Head {
-        degrees: 34,
-        remainder: 192313,
-        side: Side::Inside,
-    },
-    Head {
-        degrees: 162,
-        remainder: 23122,
-        side: Side::Outside,
-    },
-    Head {
-        degrees: 115,
-        remainder: 203874,
-        side: Side::Outside,
-    },
-];
 
 fn distance_of(halves: u64) -> Distance
     ensures { λ r. ⌜ r ≡ distanceOf halves ⌝ }
@@ -150,41 +111,13 @@ fn node_at(halves: u64) -> Node
     Node { distance, eclipse }
 }
 
-fn turn(side: Side) -> Side
-    ensures { λ r. ⌜ r ≡ turned side ⌝ }
-{
-    match side {
-        Side::AtNode => Side::AtNode,
-        Side::Outside => Side::Inside,
-        Side::Inside => Side::Outside,
-    }
-}
-
-// The side at a new moon: that of the era's head, turned once for each node passed since.
-fn side_of(lunation: u64) -> Side
-    requires { ⌜ lunation < roundMonths ⌝ }
-    ensures { λ r. ⌜ r ≡ sideOf lunation ⌝ }
-{
-    if lunation * Xinghe::P % Xinghe::M == 0 {
-        return Side::AtNode;
-    }
-    let era = (lunation / Xinghe::ERA) as usize;
-    let head = HEADS[era];
-    let distance = (head.degrees as u64) * Xinghe::N + (head.remainder as u64);
-    let since = distance + lunation % Xinghe::ERA * Xinghe::P;
-    let passed = since / Xinghe::M;
-    let side = head.side;
-    // taken beforehand, so that the compiler chooses between two values and does not jump
-    let other = turn(side);
-    if passed % 2 == 0 { side } else { other }
-}
-
 pub fn nodes_of(lunation: u64) -> Nodes
     requires { ⌜ lunation < roundMonths ⌝ }
     ensures { λ r. ⌜ r ≡ nodesOf lunation ⌝ }
 {
-    let new = node_at(2 * (lunation * Xinghe::P % Xinghe::M));
-    let side = side_of(lunation);
+    let passage = passages::passage_of(lunation);
+    let new = node_at(2 * passage.since as u64);
+    let side = passage.side(lunation);
     let full = node_at((2 * lunation + 1) * Xinghe::P % (2 * Xinghe::M));
     Nodes { new, side, full }
 }

@@ -8,7 +8,7 @@ use native.Mathlib.Omega.{arith}
 use borrow.Author.Tests.{leb-true, leb-false, ltb-false}
 use lib.Dec.{T, leb, ltb, le→leb, leb→le, lt→ltb, ltb→lt}
 use lib.ListN.{getD}
-use Rattle.reckoning.specs.Search.{pick, between, any, firstFrom, listFrom}
+use Rattle.reckoning.specs.Search.{pick, between, any, all, firstFrom, listFrom}
 
 pub T-true : (b : Bool) → T b → b ≡ true
 T-true true t = refl
@@ -144,10 +144,6 @@ module _ (f : ℕ → Bool) where
   least n t = least-from n t n 0 (omega arith) (λ q h. absurd (omega arith))
 
 -- a test that passes at each number below n: computed once over a table, it is the rule at each entry
-abbrev pub all : (ℕ → Bool) → ℕ → Bool
-all f zero = true
-all f (suc n) = f n && all f n
-
 pub all-at : (f : ℕ → Bool) (n : ℕ) → T (all f n) → (k : ℕ) → k < n → T (f k)
 all-at f zero t k h = absurd (omega arith)
 all-at f (suc n) t k h =

@@ -19,6 +19,11 @@ unfoldable pub any : (ℕ → Bool) → ℕ → Bool
 any f zero = false
 any f (suc n) = pick (f n) true (any f n)
 
+-- the test passes at each of the first n numbers
+abbrev pub all : (ℕ → Bool) → ℕ → Bool
+all f zero = true
+all f (suc n) = f n && all f n
+
 -- the first of the n numbers from p on at which the test passes; 0 if there is none
 unfoldable pub firstFrom : (ℕ → Bool) → ℕ → ℕ → ℕ
 firstFrom f p zero = 0

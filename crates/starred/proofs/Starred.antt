@@ -36,4 +36,4 @@ is-closed = figured means (sound .moon) (sound .sun)
 pub starred : All table
 unfolding between firstFrom any monthCount isLeap leapPlace monthNumber placeOf newMoon newMoonRest termDay termIn chapterRest yearAt lunationFor nameOf solsticeOf newMoonOf lengthOf headOf headFor rowOf rowFor distanceOf eclipseAt eclipseOf noEclipse nodeAt passed sideOf nodesOf sumOf amountOf correctionOn anomalyAt correctionAt moved correctedAt correctionsOf nodesFor correctionsFor
 starred =
-    (rw is-closed refl, ((rw (is-closed, year-closed 0, is-closed) refl, refl), (rw is-closed refl, (rw is-closed refl, (rw is-closed refl, (rw is-closed refl, (rw is-closed refl, (rw is-closed refl, ((rw (is-closed, year-closed 12511799, is-closed) refl, refl), (refl, (rw is-closed (refl, refl, refl, refl, refl), (rw is-closed (refl, refl, refl, refl), ((rw is-closed refl, refl, rw is-closed refl), (rw is-closed refl, ((rw (is-closed, year-closed 3636238, is-closed) refl, refl), ((rw (is-closed, year-closed 3636245, is-closed) refl, refl), ((rw (is-closed, year-closed 3636246, is-closed) refl, refl), (rw is-closed (refl, refl, refl, refl, refl), (rw is-closed (refl, refl), (rw is-closed refl, tt))))))))))))))))))))
+    (rw is-closed refl, ((rw is-closed refl, rw (is-closed, year-closed 0, is-closed) refl, refl), (rw is-closed refl, (rw is-closed refl, (rw is-closed refl, (rw is-closed refl, (rw is-closed refl, (rw is-closed refl, ((rw is-closed refl, rw (is-closed, year-closed 12511799, is-closed) refl, refl), (refl, (rw is-closed (refl, refl, refl, refl, refl), ((rw is-closed refl, rw is-closed refl), (rw is-closed (refl, refl, refl, refl), ((rw is-closed refl, refl, rw is-closed refl), (rw is-closed refl, ((rw is-closed refl, rw (is-closed, year-closed 3636238, is-closed) refl, refl), ((rw is-closed refl, rw (is-closed, year-closed 3636245, is-closed) refl, refl), ((rw is-closed refl, rw (is-closed, year-closed 3636246, is-closed) refl, refl), (rw is-closed (refl, refl, refl, refl, refl), (rw is-closed (refl, refl), ((rw is-closed refl, rw is-closed refl), (rw is-closed refl, tt))))))))))))))))))))))

@@ -1,5 +1,5 @@
 -- 01, "Cases at the edges": the cases marked *, as 02 moved them (§3: the day of the sixty is one more; §4: Xinghe 2's leap place is 7), and
--- what §4 says, as one table. What each says is `Holds`; proofs/Starred.antt shows that all do.
+-- what §4 says and what rows keep of their new moon by §5, as one table. What each says is `Holds`; proofs/Starred.antt shows that all do.
 -- Assumes nothing.
 use mathlib.Core.Path.{_≡_}
 use mathlib.Core.Bool.{Bool, true, false}
@@ -7,15 +7,16 @@ use mathlib.Core.List.{List, [], _∷_}
 use Prim.Native.Nat.{ℕ, _+_, _-_, _*_}
 use lib.Dec.{ltb}
 use lib.IntN.{ℤ, pos}
+use lib.ListN.{take, drop}
 use Rattle.reckoning.specs.Means.{termDay}
 use Rattle.lunisolar.specs.Sixty.{sexagenaryOf}
 use Rattle.units.specs.Xinghe.{N, D, P, means}
 use Rattle.moon.specs.NewMoons.{lengthOf}
 use Rattle.calendar.specs.Heads.{yearHead}
-use Rattle.calendar.specs.Rows.{monthRow}
-use Rattle.calendar.specs.Answers.{rowValues}
+use Rattle.calendar.specs.Rows.{monthRow, bitOf, rowFields}
+use Rattle.calendar.specs.Answers.{rowNumber, rowValues}
 use Rattle.calendar.specs.declared.HeadAnswer.{HeadAnswer}
-use Rattle.calendar.specs.declared.RowAnswer.{RowAnswer}
+use Rattle.node.specs.Sides.{sideNumber}
 use Rattle.node.specs.declared.Side.{Side}
 use Rattle.ephemeris.specs.Jobs.{nodesAt, correctionsAt}
 use Rattle.ephemeris.specs.Answers.{nodesNumber, nodesValues, correctionsNumber, correctionsValues}
@@ -25,6 +26,8 @@ pub data Case : Type 0 where
   head : (year before r months leap day remainder : ℕ) → Case
   -- a year and a place: the month of the round, month number, leap or not, day, day of the sixty, remainder, length
   row : (year place lunation number : ℕ) (leap : Bool) (day sexagenary remainder length : ℕ) → Case
+  -- and what the row keeps of its new moon: degrees since the node and their remainder, side, anomaly day and rest
+  kept : (year place degrees remainder : ℕ) (side : Side) (day rest : ℕ) → Case
   -- a small remainder: the length of its month
   length : (remainder length : ℕ) → Case
   -- a year and a place: the new moon's distance since the node in degrees and remainder, its side, whether an eclipse is marked, and its size
@@ -40,8 +43,12 @@ abbrev pub Holds : Case → Type 0
 Holds (head n b r m l d s) =
     yearHead n ≡ HeadAnswer.Answered (record { before = b; remainder = r; months = m; leap = l; solstice = record { day = d; remainder = record { parts = s } } })
 Holds (row n p m i l d x r w) =
-    (monthRow n p ≡ RowAnswer.Answered (record { lunation = m; year = n; place = p; number = i; leap = l; day = d; remainder = record { parts = r }; length = w }))
+    (rowNumber (monthRow n p) ≡ 0)
+    × (take 8 (rowFields (rowValues (monthRow n p))) ≡ m ∷ n ∷ p ∷ i ∷ bitOf l ∷ d ∷ r ∷ w ∷ [])
     × (sexagenaryOf d ≡ x)
+Holds (kept n p d r s a x) =
+    (rowNumber (monthRow n p) ≡ 0)
+    × (drop 8 (rowFields (rowValues (monthRow n p))) ≡ d ∷ r ∷ sideNumber s ∷ a ∷ x ∷ [])
 Holds (length r w) = lengthOf (record { parts = r }) ≡ w
 Holds (newNode n p d r s m w) =
     (nodesNumber (nodesAt n p) ≡ 0)
@@ -80,6 +87,7 @@ table =
     ∷ length 97882 29
     -- month 0 stands at the node, and its full moon exactly at P/2
     ∷ newNode 1 0 0 0 Side.AtNode true 15
+    ∷ kept 1 0 0 0 Side.AtNode 1 0
     ∷ fullNode 1 0 14 159588 1 true 1
     -- Xinghe 2: the new moon of place 8 and the Great Heat (大暑), middle term 7, fall on one day (02 §4), so that place 7 is leap
     ∷ meeting 293997 8 7 107380543
@@ -90,6 +98,7 @@ table =
     ∷ row 293997 8 3636246 6 false 107380543 44 52392 29
     ∷ newNode 293997 0 136 125572 Side.Inside false 0
     ∷ correction 293997 0 14 188982 (pos 2124) 107380306 207742
+    ∷ kept 293997 0 136 125572 Side.Inside 14 188982
     -- year 294,000: leap place 3, where rounding by the leap remainder gives 4
     ∷ head 294000 3636275 499 13 3 107381425 14483
     ∷ []

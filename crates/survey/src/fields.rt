@@ -4,6 +4,7 @@ use anomaly::Anomaly;
 use anomaly::Corrected;
 use anomaly::Corrections;
 use calendar::MonthRow;
+use calendar::rows::FIELDS;
 use moon::phases::Phase;
 use moon::phases::Phases;
 use node::Distance;
@@ -30,18 +31,16 @@ pub fn fed_point(digest: Digest, point: Point) -> Digest {
         .feed(point.rest)
 }
 
+// The numbers of a row's fields, and then the day of the sixty on which the month begins.
 pub fn fed_row(digest: Digest, row: MonthRow) -> Digest {
-    let remainder = row.remainder;
-    digest
-        .feed(row.lunation)
-        .feed(row.year)
-        .feed(row.place)
-        .feed(row.number)
-        .feed(mark(row.leap))
-        .feed(row.day)
-        .feed(lunisolar::sixty::sexagenary(row.day))
-        .feed(remainder.parts)
-        .feed(row.length)
+    let numbers = row.fields();
+    let mut fed = digest;
+    let mut i = 0;
+    while i < FIELDS {
+        fed = fed.feed(numbers[i]);
+        i += 1;
+    }
+    fed.feed(lunisolar::sixty::sexagenary(row.day))
 }
 
 // The stem and branch of a day, by the lent names.

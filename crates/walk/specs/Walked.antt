@@ -11,7 +11,7 @@ use Rattle.walking.specs.Walk.{genuine, walk, total, number}
 use Rattle.units.specs.Xinghe.{roundMonths}
 use Rattle.calendar.specs.Rows.{rowOf}
 use Rattle.calendar.specs.Answers.{zeroRow}
-use Rattle.calendar.specs.Carries.{months}
+use Rattle.calendar.specs.Carries.{months, namedMonth, genuineFields}
 use Rattle.calendar.specs.declared.MonthRow.{MonthRow}
 use Rattle.walk.specs.declared.Walked.{Walked}
 use Rattle.walk.specs.declared.WalkAnswer.{WalkAnswer}
@@ -23,6 +23,10 @@ walked r cs = record { row = walk months r cs; sum = total months r cs; answered
 -- a walk from a row that is not genuine is refused under 4
 abbrev pub walkAnswer : MonthRow → List ℤ → WalkAnswer
 walkAnswer r cs = pick (genuine months r) (WalkAnswer.Answered (walked r cs)) (WalkAnswer.Refused Refusal.Row)
+
+-- a walk from a row handed in as numbers: from the row that they are, and refused under 4 where they are no genuine row's
+abbrev pub walkAnswerFields : List ℕ → List ℤ → WalkAnswer
+walkAnswerFields f cs = pick (genuineFields f) (WalkAnswer.Answered (walked (rowOf (namedMonth f)) cs)) (WalkAnswer.Refused Refusal.Row)
 
 -- the number of an answer, 0 where it is answered, and its values, all zero where it is refused
 abbrev pub walkNumber : WalkAnswer → ℕ

@@ -1,10 +1,10 @@
 // A walk: a row carried by each of a list of signed counts in turn.
 use calendar::MonthRow;
-use calendar::RowAnswer;
+use calendar::rows::RowFields;
 use refusal::Refusal;
 use units::Xinghe;
 ghost use mathlib.Core.Path.{_≡_};
-ghost use Rattle.walk.specs.Walked.{walkAnswer, walkNumber, walkValues, zeroWalk};
+ghost use Rattle.walk.specs.Walked.{walkAnswer, walkAnswerFields, walkNumber, walkValues, zeroWalk};
 
 // Where a walk ends, the sum of the answered counts, and how many were answered.
 pub struct Walked {
@@ -52,26 +52,30 @@ impl WalkAnswer {
     }
 }
 
-// The month alone is moved, and at the end the first row is tested and one row worked out: by demand 3 that is the walk which carries the row
-// by each count.
+// A walk from a row handed in as numbers. That row is tested, then the month alone is moved, and one row worked out at the end: by demand 3 that
+// is the walk which carries the row by each count.
+pub fn walk_fields(start: &RowFields, counts: &[i64]) -> WalkAnswer
+    ensures { λ r. ⌜ r ≡ walkAnswerFields (now (start .entry)) (now (counts .entry)) ⌝ }
+{
+    if calendar::carries::is_genuine(start) {
+        let from = start[0];
+        let end = walking::walk_months(Xinghe::MONTHS, from, counts);
+        let row = calendar::rows::row_of(end.month);
+        // refused carries move nothing, so the sum is how far the walk has come
+        let sum = walking::difference(end.month, from);
+        WalkAnswer::Answered(Walked {
+            row,
+            sum,
+            answered: end.answered,
+        })
+    } else {
+        WalkAnswer::Refused(Refusal::Row)
+    }
+}
+
 pub fn walk(start: MonthRow, counts: &[i64]) -> WalkAnswer
     ensures { λ r. ⌜ r ≡ walkAnswer start (now (counts .entry)) ⌝ }
 {
-    let from = start.lunation;
-    if Xinghe::MONTHS <= from {
-        return WalkAnswer::Refused(Refusal::Row);
-    }
-    let end = walking::walk_months(Xinghe::MONTHS, from, counts);
-    match start.moved_to(end.month) {
-        RowAnswer::Answered(row) => {
-            // refused carries move nothing, so the sum is how far the walk has come
-            let sum = walking::difference(end.month, from);
-            WalkAnswer::Answered(Walked {
-                row,
-                sum,
-                answered: end.answered,
-            })
-        }
-        RowAnswer::Refused(e) => WalkAnswer::Refused(e),
-    }
+    let fields = start.fields();
+    walk_fields(&fields, counts)
 }

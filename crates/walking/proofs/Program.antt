@@ -2,7 +2,7 @@
 -- Assumes nothing.
 use Prim.Native.Nat.{ℕ, _+_, _<_, _≤_}
 use mathlib.Core.Path.{_≡_, refl, sym, ap, _∙_}
-use mathlib.Core.Bool.{Bool, true, false}
+use mathlib.Core.Bool.{Bool, true, false, _&&_}
 use mathlib.Core.List.{List, [], _∷_}
 use native.Mathlib.Omega.{arith}
 use native.Mathlib.Nat.{le-antisymm, add-zero}
@@ -14,10 +14,11 @@ use lib.Seq.{drop-cons, drop-length}
 use lib.IntN.{ℤ, pos, negsuc, natAbs, _+ℤ_}
 use Rattle.reckoning.specs.Search.{pick}
 use Rattle.refusal.specs.declared.Refusal.{Refusal}
-use Rattle.walking.specs.Walk.{Calendar, answered, refused, inRound, genuine, carry}
+use Rattle.walking.specs.Walk.{Calendar, answered, refused, inRound, carryFrom}
 use Rattle.walking.specs.Paper.{finalMonth, answeredSteps}
 use Rattle.walking.specs.Signed.{targetOf}
 use Rattle.walking.specs.declared.Target.{Target}
+use Rattle.walking.proofs.Walks.{and-both}
 
 -- a month is reached only inside the round
 reached : (b : Bool) (n k : ℕ) → Target.Month k ≡ pick b (Target.Month n) Target.Outside → (b ≡ true) × (n ≡ k)
@@ -41,27 +42,26 @@ reached-below size z k e =
     let p = reached (inRound size z) (natAbs z) k e in
     omega (arith, inside size z (p .0), p .1)
 
-module _ {R : Type 0} (C : Calendar R) (r : R) where
-  -- where the code's two tests end
-  pub far : C .size ≤ C .month r → genuine C r ≡ false
-  far h = rw (le-ltb (C .month r) (C .size) h)
+-- where the code's two tests end: whether month m is one of the round, and whether what is handed in for its row is the same as the row
+module _ (size m : ℕ) (same : Bool) where
+  pub far : size ≤ m → (ltb m size && same) ≡ false
+  far h = rw (le-ltb m size h)
 
-  pub near : C .month r < C .size → genuine C r ≡ C .same r (C .row (C .month r))
-  near h = rw (lt-ltb (C .month r) (C .size) h)
+  pub near : m < size → (ltb m size && same) ≡ same
+  near h = rw (lt-ltb m size h)
 
-  module _ (c : ℤ) where
-    pub carry-forged : genuine C r ≡ false → carry C r c ≡ refused Refusal.Row
-    carry-forged g = rw g
+  pub in-round : (ltb m size && same) ≡ true → m < size
+  in-round e = ltb-true m size (and-both (ltb m size) same e .0)
 
-    pub carry-month : (k : ℕ) → Target.Month k ≡ targetOf (C .size) (pos (C .month r) +ℤ c) →
-        carry C r c ≡ pick (genuine C r) (answered (C .row k)) (refused Refusal.Row)
-    carry-month k e =
-        let p = reached (inRound (C .size) (pos (C .month r) +ℤ c)) (natAbs (pos (C .month r) +ℤ c)) k e in
-        rw (p .0, p .1)
+-- where the count leads, once what is handed in has passed
+module _ {R : Type 0} (C : Calendar R) (ok : Bool) (m : ℕ) (c : ℤ) (g : ok ≡ true) where
+  pub carry-month : (k : ℕ) → Target.Month k ≡ targetOf (C .size) (pos m +ℤ c) → carryFrom C ok m c ≡ answered (C .row k)
+  carry-month k e =
+      let p = reached (inRound (C .size) (pos m +ℤ c)) (natAbs (pos m +ℤ c)) k e in
+      rw (g, p .0, p .1)
 
-    pub carry-outside : Target.Outside ≡ targetOf (C .size) (pos (C .month r) +ℤ c) →
-        carry C r c ≡ pick (genuine C r) (refused Refusal.Carry) (refused Refusal.Row)
-    carry-outside e = rw (passed (inRound (C .size) (pos (C .month r) +ℤ c)) (natAbs (pos (C .month r) +ℤ c)) e)
+  pub carry-outside : Target.Outside ≡ targetOf (C .size) (pos m +ℤ c) → carryFrom C ok m c ≡ refused Refusal.Carry
+  carry-outside e = rw (g, passed (inRound (C .size) (pos m +ℤ c)) (natAbs (pos m +ℤ c)) e)
 
 -- a walk by months so far: it stands at month k, after i counts of cs of which n were answered, and the rest of the walk from there is the
 -- whole walk from the month m

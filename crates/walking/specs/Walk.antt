@@ -34,9 +34,13 @@ module _ {R : Type 0} where
   abbrev pub landing : Calendar R → ℤ → Answer R
   landing C z = pick (inRound (C .size) z) (answered (C .row (natAbs z))) (refused Refusal.Carry)
 
-  -- a carry: refusal 4 of a row that is not genuine; else the row so many months on, in whole numbers
+  -- a carry of what is handed in for the row of month m: refusal 4 where that is not genuine; else the row so many months on, in whole numbers
+  abbrev pub carryFrom : Calendar R → Bool → ℕ → ℤ → Answer R
+  carryFrom C ok m c = pick ok (landing C (pos m +ℤ c)) (refused Refusal.Row)
+
+  -- a carry of a row
   abbrev pub carry : Calendar R → R → ℤ → Answer R
-  carry C r c = pick (genuine C r) (landing C (pos (C .month r) +ℤ c)) (refused Refusal.Row)
+  carry C r c = carryFrom C (genuine C r) (C .month r) c
 
   -- the row that the next carry is handed: the one answered, or, refused, the one before
   abbrev pub stand : R → Answer R → R

@@ -2,6 +2,7 @@
 -- Assumes nothing.
 use mathlib.Core.Path.{_≡_, refl}
 use lib.ListN.{replicate}
+use Rattle.calendar.specs.Rows.{fieldCount, rowFields}
 use Rattle.calendar.specs.Answers.{zeroHead, zeroRow}
 use Rattle.lunisolar.specs.Answers.{zeroDay, zeroDate}
 use Rattle.ephemeris.specs.Answers.{zeroPhases, zeroNodes, zeroCorrections, zeroPoint}
@@ -10,19 +11,19 @@ use Rattle.names.specs.declared.LocationAnswer.{LocationAnswer}
 use Rattle.planets.specs.Answers.{zeroConjunctions}
 use Rattle.planets.specs.Stages.{room, noStages}
 use Rattle.walk.specs.Walked.{zeroWalk}
-use Rattle.xinghe.specs.Fields.{headFields, rowFields, dayFields, dateFields, phasesFields, nodesFields, correctionsFields, pointFields, conjunctionsFields, stagesFields, locationFields}
+use Rattle.xinghe.specs.Fields.{headFields, dayFields, dateFields, phasesFields, nodesFields, correctionsFields, pointFields, conjunctionsFields, stagesFields, locationFields}
 use Rattle.xinghe.specs.Walks.{totalsFields}
 
 pub record Zeros : Type 0 where
   pub head : headFields zeroHead ≡ replicate 6 0
-  pub row : rowFields zeroRow ≡ replicate 8 0
+  pub row : rowFields zeroRow ≡ replicate fieldCount 0
   pub day : dayFields zeroDay ≡ replicate 2 0
   pub date : dateFields zeroDate ≡ replicate 3 0
   pub phases : phasesFields zeroPhases ≡ replicate 12 0
   pub nodes : nodesFields zeroNodes ≡ replicate 15 0
   pub corrections : correctionsFields zeroCorrections ≡ replicate 14 0
   pub point : pointFields zeroPoint ≡ replicate 3 0
-  pub last : rowFields (zeroWalk .row) ≡ replicate 8 0
+  pub last : rowFields (zeroWalk .row) ≡ replicate fieldCount 0
   pub totals : totalsFields zeroWalk ≡ replicate 3 0
   pub conjunctions : conjunctionsFields zeroConjunctions ≡ replicate 10 0
   pub stages : stagesFields noStages ≡ replicate room (replicate 10 0)

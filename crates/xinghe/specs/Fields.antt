@@ -1,12 +1,12 @@
--- The values of each answer as the list of numbers that is written to the lent array, in the order of include/xinghe.h.
+-- The values of each answer as the list of numbers that is written to the lent array, in the order of include/xinghe.h. A row's are its fields
+-- (calendar, `rowFields`).
 -- Assumes nothing.
-use mathlib.Core.Bool.{Bool, cond}
 use mathlib.Core.List.{List, [], _∷_, map}
 use Prim.Native.Nat.{ℕ}
 use Rattle.names.specs.Names.{whoseNumber}
 use Rattle.names.specs.declared.LocationAnswer.{LocationAnswer}
+use Rattle.calendar.specs.Rows.{bitOf}
 use Rattle.calendar.specs.declared.YearHead.{YearHead}
-use Rattle.calendar.specs.declared.MonthRow.{MonthRow}
 use Rattle.lunisolar.specs.declared.dates.Day.{Day}
 use Rattle.lunisolar.specs.declared.dates.Date.{Date}
 use Rattle.moon.specs.declared.phases.Phases.{Phases}
@@ -19,17 +19,9 @@ use Rattle.planets.specs.Answers.{apparitionNumber, stageFields}
 use Rattle.planets.specs.declared.TwoConjunctions.{TwoConjunctions}
 use Rattle.planets.specs.declared.Stage.{Stage}
 
--- yes is 1 and no is 0
-abbrev pub bitOf : Bool → ℕ
-bitOf b = cond b 1 0
-
 -- a year's head: months before, leap remainder, month count, leap place, solstice day and remainder
 abbrev pub headFields : YearHead → List ℕ
 headFields h = h .before ∷ h .remainder ∷ h .months ∷ h .leap ∷ h .solstice .day ∷ h .solstice .remainder .parts ∷ []
-
--- a month's row: lunation, year, place, number, leap, day, remainder, length
-abbrev pub rowFields : MonthRow → List ℕ
-rowFields r = r .lunation ∷ r .year ∷ r .place ∷ r .number ∷ bitOf (r .leap) ∷ r .day ∷ r .remainder .parts ∷ r .length ∷ []
 
 -- a day: its number and its day of the sixty
 abbrev pub dayFields : Day → List ℕ

@@ -1,4 +1,3 @@
 pub mod Fields
-pub mod Lent
 pub mod Walks
 pub mod Years

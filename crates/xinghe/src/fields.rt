@@ -1,7 +1,7 @@
 // The values of each answer as the numbers that are written to the lent array, in the order of include/xinghe.h.
 use anomaly::Corrections;
-use calendar::MonthRow;
 use calendar::YearHead;
+use calendar::rows::bit;
 use lunisolar::dates::Date;
 use lunisolar::dates::Day;
 use moon::phases::Phases;
@@ -10,14 +10,7 @@ use node::Nodes;
 use planets::TwoConjunctions;
 use sun::Point;
 ghost use mathlib.Core.Path.{_≡_};
-ghost use Rattle.xinghe.specs.Fields.{bitOf, headFields, rowFields, dayFields, dateFields, phasesFields, nodesFields, correctionsFields, pointFields, conjunctionsFields, locationFields};
-
-// Yes is 1 and no is 0.
-pub fn bit(yes: bool) -> u64
-    ensures { λ r. ⌜ r ≡ bitOf yes ⌝ }
-{
-    yes as u64
-}
+ghost use Rattle.xinghe.specs.Fields.{headFields, dayFields, dateFields, phasesFields, nodesFields, correctionsFields, pointFields, conjunctionsFields, locationFields};
 
 pub fn head_fields(head: YearHead) -> [u64; 6]
     ensures { λ r. ⌜ r ≡ headFields head ⌝ }
@@ -31,23 +24,6 @@ pub fn head_fields(head: YearHead) -> [u64; 6]
         head.leap,
         solstice.day,
         rest.parts,
-    ]
-}
-
-pub fn row_fields(row: MonthRow) -> [u64; 8]
-    ensures { λ r. ⌜ r ≡ rowFields row ⌝ }
-{
-    let rest = row.remainder;
-    let leap = bit(row.leap);
-    [
-        row.lunation,
-        row.year,
-        row.place,
-        row.number,
-        leap,
-        row.day,
-        rest.parts,
-        row.length,
     ]
 }
 

@@ -1,10 +1,12 @@
 // The Xinghe calendar for C and Rust: the functions of include/xinghe.h. Each takes any numbers, returns 0 or the number under which it
 // refuses, and writes its values as plain numbers to the arrays lent to it: zeros where it refuses.
+use calendar::rows::FIELDS;
+use calendar::rows::RowFields;
 ghost use mathlib.Core.Path.{_≡_};
 ghost use mathlib.Core.List.{[], _∷_};
 ghost use lib.ListN.{length};
 ghost use Rattle.calendar.specs.Heads.{yearHead};
-ghost use Rattle.calendar.specs.Rows.{monthRow};
+ghost use Rattle.calendar.specs.Rows.{rowFields, monthRow};
 ghost use Rattle.calendar.specs.Dates.{dayOfDate, dateOfDay};
 ghost use Rattle.calendar.specs.Answers.{headNumber, headValues, rowNumber, rowValues};
 ghost use Rattle.lunisolar.specs.Answers.{dayNumber, dayValues, dateNumber, dateValues};
@@ -15,14 +17,13 @@ ghost use Rattle.names.specs.Names.{bytesOf, labelLocation, labelNumber};
 ghost use Rattle.names.specs.Ganzhi.{ganzhi};
 ghost use Rattle.planets.specs.Jobs.{conjunctionsAt, stagesAt};
 ghost use Rattle.planets.specs.Answers.{conjunctionsNumber, conjunctionsValues, stagesNumber, stagesCount};
-ghost use Rattle.xinghe.specs.Fields.{conjunctionsFields, stagesFields, locationFields, headFields, rowFields, dayFields, dateFields, phasesFields, nodesFields, correctionsFields, pointFields};
-ghost use Rattle.xinghe.specs.Lent.{carryOfFields};
-ghost use Rattle.walk.specs.Walked.{walkNumber, walkValues};
-ghost use Rattle.xinghe.specs.Walks.{walkOfFields, totalsFields};
+ghost use Rattle.xinghe.specs.Fields.{conjunctionsFields, stagesFields, locationFields, headFields, dayFields, dateFields, phasesFields, nodesFields, correctionsFields, pointFields};
+ghost use Rattle.calendar.specs.Carries.{carriedFields};
+ghost use Rattle.walk.specs.Walked.{walkAnswerFields, walkNumber, walkValues};
+ghost use Rattle.xinghe.specs.Walks.{totalsFields};
 ghost use Rattle.xinghe.specs.Years.{fillAnswerIn, filledFields};
 
 pub mod fields;
-pub mod lent;
 pub mod walks;
 pub mod years;
 
@@ -36,11 +37,11 @@ pub extern "C" fn xinghe_year_head(year: u64, out: &mut [u64; 6]) -> u64
 }
 
 #[no_mangle]
-pub extern "C" fn xinghe_month_row(year: u64, place: u64, out: &mut [u64; 8]) -> u64
+pub extern "C" fn xinghe_month_row(year: u64, place: u64, out: &mut RowFields) -> u64
     ensures { λ r. ⌜ (r ≡ rowNumber (monthRow year place)) × (now (out .exit) ≡ rowFields (rowValues (monthRow year place))) ⌝ }
 {
     let answer = calendar::rows::month_row(year, place);
-    *out = fields::row_fields(answer.values());
+    *out = answer.values().fields();
     answer.number()
 }
 
@@ -137,35 +138,35 @@ pub extern "C" fn xinghe_ganzhi_names(out: &mut [u8; 360]) -> u64
     0
 }
 
-// `row` holds the eight numbers of a month's row.
+// `row` is thirteen numbers, refused under 4 unless they are a genuine row's.
 #[no_mangle]
-pub extern "C" fn xinghe_carry(row: &[u64; 8], count: i64, out: &mut [u64; 8]) -> u64
-    ensures { λ r. ⌜ (r ≡ rowNumber (carryOfFields (now (row .entry)) count)) × (now (out .exit) ≡ rowFields (rowValues (carryOfFields (now (row .entry)) count))) ⌝ }
+pub extern "C" fn xinghe_carry(row: &RowFields, count: i64, out: &mut RowFields) -> u64
+    ensures { λ r. ⌜ (r ≡ rowNumber (carriedFields (now (row .entry)) count)) × (now (out .exit) ≡ rowFields (rowValues (carriedFields (now (row .entry)) count))) ⌝ }
 {
-    let answer = lent::carry_from(lent::row_of_fields(*row), count);
-    *out = fields::row_fields(answer.values());
+    let answer = calendar::carries::carry_fields(row, count);
+    *out = answer.values().fields();
     answer.number()
 }
 
-// A row carried by each of the counts in turn, from a genuine row.
+// A row carried by each of the counts in turn; refused under 4 where it isn't genuine.
 #[no_mangle]
 pub extern "C" fn xinghe_walk(
-    row: &[u64; 8],
+    row: &RowFields,
     counts: &[i64],
-    out: &mut [u64; 8],
+    out: &mut RowFields,
     totals: &mut [u64; 3],
 ) -> u64
-    ensures { λ r. ⌜ (r ≡ walkNumber (walkOfFields (now (row .entry)) (now (counts .entry)))) × (now (out .exit) ≡ rowFields (walkValues (walkOfFields (now (row .entry)) (now (counts .entry))) .row)) × (now (totals .exit) ≡ totalsFields (walkValues (walkOfFields (now (row .entry)) (now (counts .entry))))) ⌝ }
+    ensures { λ r. ⌜ (r ≡ walkNumber (walkAnswerFields (now (row .entry)) (now (counts .entry)))) × (now (out .exit) ≡ rowFields (walkValues (walkAnswerFields (now (row .entry)) (now (counts .entry))) .row)) × (now (totals .exit) ≡ totalsFields (walkValues (walkAnswerFields (now (row .entry)) (now (counts .entry))))) ⌝ }
 {
-    let answer = walks::walk_from(lent::row_of_fields(*row), counts);
+    let answer = walk::walk_fields(row, counts);
     let end = answer.values();
     let last = end.row;
-    *out = fields::row_fields(last);
+    *out = last.fields();
     *totals = walks::totals_fields(end);
     answer.number()
 }
 
-// The year's rows, of eight numbers each, are stored by place at the front of the lent list, and the rest of it stays. Refused, nothing is
+// The year's rows, of thirteen numbers each, are stored by place at the front of the lent list, and the rest of it stays. Refused, nothing is
 // written.
 #[no_mangle]
 pub extern "C" fn xinghe_fill_year(year: u64, out: &mut [u64]) -> u64
@@ -174,9 +175,12 @@ pub extern "C" fn xinghe_fill_year(year: u64, out: &mut [u64]) -> u64
     let head = calendar::heads::year_head(year);
     let answer = years::answer_in(head, out.len());
     let n = answer.count() as usize;
+    let mut elements = years::first_elements(head);
     let mut i = 0;
     while i < n {
-        years::put(out, 8 * i, years::fields_at(year, head, i));
+        years::put(out, FIELDS * i, years::fields_at(year, head, i, elements));
+        // the next month's by additions, which is shorter than from the origin
+        elements = elements.next();
         i += 1;
     }
     answer.number()

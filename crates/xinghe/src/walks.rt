@@ -1,23 +1,13 @@
-// Walks from a handed-in row.
-use calendar::RowAnswer;
-use walk::WalkAnswer;
+// What a walk comes to.
+use calendar::rows::bit;
 use walk::Walked;
 ghost use mathlib.Core.Path.{_≡_};
-ghost use Rattle.xinghe.specs.Walks.{walkedFrom, totalsFields};
-
-pub fn walk_from(start: RowAnswer, counts: &[i64]) -> WalkAnswer
-    ensures { λ r. ⌜ r ≡ walkedFrom start (now (counts .entry)) ⌝ }
-{
-    match start {
-        RowAnswer::Answered(row) => walk::walk(row, counts),
-        RowAnswer::Refused(e) => WalkAnswer::Refused(e),
-    }
-}
+ghost use Rattle.xinghe.specs.Walks.{totalsFields};
 
 pub fn totals_fields(end: Walked) -> [u64; 3]
     ensures { λ r. ⌜ r ≡ totalsFields end ⌝ }
 {
     let sum = anomaly::amounts::sized_of(end.sum);
-    let minus = crate::fields::bit(sum.minus);
+    let minus = bit(sum.minus);
     [minus, sum.size, end.answered as u64]
 }

@@ -1,6 +1,6 @@
 //! The benchmark's inputs: the same in every run, all of them answered.
 
-use bench::fast;
+use bench::fast::{self, Row, ROW};
 
 /// Enough that no branch predictor learns them by heart.
 pub const COUNT: usize = 1 << 16;
@@ -11,8 +11,8 @@ pub struct Inputs {
     pub months: Vec<(u64, u64)>,
     pub dates: Vec<(u64, u64, u64)>,
     pub days: Vec<u64>,
-    pub carries: Vec<([u64; 8], i64)>,
-    pub walks: Vec<([u64; 8], Vec<i64>)>,
+    pub carries: Vec<(Row, i64)>,
+    pub walks: Vec<(Row, Vec<i64>)>,
     pub years: Vec<u64>,
     pub points: Vec<(u64, u64, u64)>,
     pub conjunctions: Vec<(u64, u64)>,
@@ -39,9 +39,9 @@ impl Random {
         1 + self.below(fast::ROUND_YEARS)
     }
 
-    fn row(&mut self) -> [u64; 8] {
+    fn row(&mut self) -> Row {
         let (year, place) = self.month();
-        let mut row = [0; 8];
+        let mut row = [0; ROW];
         assert_eq!(fast::month_row::<fast::Division>(year, place, &mut row), 0);
         row
     }
@@ -74,14 +74,14 @@ impl Random {
     }
 
     /// To a month of the round.
-    fn carry(&mut self) -> ([u64; 8], i64) {
+    fn carry(&mut self) -> (Row, i64) {
         let row = self.row();
         let to = self.below(fast::ROUND_MONTHS);
         (row, to as i64 - row[0] as i64)
     }
 
     /// Steps of up to a million months either way; a few lead outside.
-    fn walk(&mut self) -> ([u64; 8], Vec<i64>) {
+    fn walk(&mut self) -> (Row, Vec<i64>) {
         let counts = (0..STEPS).map(|_| self.below(2_000_001) as i64 - 1_000_000);
         let counts = counts.collect();
         (self.row(), counts)

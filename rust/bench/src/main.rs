@@ -10,12 +10,12 @@ mod inputs;
 mod measure;
 mod survey;
 
-use bench::fast::{self, Division, MonthsBefore, Table};
+use bench::fast::{self, Division, MonthsBefore, Row, Table, ROW};
 use inputs::Inputs;
 use measure::{measure, Line};
 
 /// A walk's last row and its totals.
-type End = ([u64; 8], [u64; 3]);
+type End = (Row, [u64; 3]);
 
 /// A planet's count of stages, and the stages.
 type Stages = ([u64; 1], [[u64; 10]; 14]);
@@ -33,7 +33,7 @@ fn years_and_dates<B: MonthsBefore>(inputs: &Inputs, names: [&'static str; 7]) -
         measure(
             names[1],
             &inputs.months,
-            [0; 8],
+            [0; ROW],
             |&(year, place), out| raw::xinghe_month_row(year, place, out),
             |&(year, place), out| fast::month_row::<B>(year, place, out),
         ),
@@ -54,21 +54,21 @@ fn years_and_dates<B: MonthsBefore>(inputs: &Inputs, names: [&'static str; 7]) -
         measure(
             names[4],
             &inputs.carries,
-            [0; 8],
+            [0; ROW],
             |(row, count), out| raw::xinghe_carry(row, *count, out),
             |(row, count), out| fast::carry::<B>(row, *count, out),
         ),
         measure(
             names[5],
             &inputs.walks,
-            ([0; 8], [0; 3]),
+            ([0; ROW], [0; 3]),
             library_walk,
             |(row, counts), end: &mut End| fast::walk::<B>(row, counts, &mut end.0, &mut end.1),
         ),
         measure(
             names[6],
             &inputs.years,
-            [0; 13 * 8],
+            [0; 13 * ROW],
             // SAFETY: pointer and length are those of an array.
             |&year, out| unsafe { raw::xinghe_fill_year(year, out.as_mut_ptr(), out.len()) },
             |&year, out| fast::fill_year::<B>(year, out),
@@ -96,7 +96,7 @@ const BY_TABLE: [&str; 7] = [
     "a year's list, from a table",
 ];
 
-fn library_walk((row, counts): &([u64; 8], Vec<i64>), end: &mut End) -> u64 {
+fn library_walk((row, counts): &(Row, Vec<i64>), end: &mut End) -> u64 {
     let (out, totals) = end;
     // SAFETY: pointer and length are those of a slice.
     unsafe { raw::xinghe_walk(row, counts.as_ptr(), counts.len(), out, totals) }

@@ -24,13 +24,13 @@ struct Sums {
 #[inline(always)]
 fn survey(
     head: impl Fn(u64, &mut [u64; 6]) -> u64,
-    row: impl Fn(u64, u64, &mut [u64; 8]) -> u64,
+    row: impl Fn(u64, u64, &mut fast::Row) -> u64,
     phases: impl Fn(u64, u64, &mut [u64; 12]) -> u64,
     nodes: impl Fn(u64, u64, &mut [u64; 15]) -> u64,
     corrections: impl Fn(u64, u64, &mut [u64; 14]) -> u64,
 ) -> Sums {
     let mut sums = Sums::default();
-    let (mut a, mut b, mut c, mut d, mut e) = ([0; 6], [0; 8], [0; 12], [0; 15], [0; 14]);
+    let (mut a, mut b, mut c, mut d, mut e) = ([0; 6], [0; fast::ROW], [0; 12], [0; 15], [0; 14]);
     for year in 1..=fast::ROUND_YEARS {
         head(black_box(year), &mut a);
         for place in 0..a[2] {

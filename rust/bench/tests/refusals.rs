@@ -2,7 +2,7 @@
 //! the library refuses, so that neither is spared a test in the other's favour.
 
 use bench::fast::{self, Division, MonthsBefore, Table};
-use xinghe::Row;
+use xinghe::{Row, ROW};
 
 const OTHER: u64 = 7;
 
@@ -23,11 +23,15 @@ fn some_row() -> Row {
 
 /// The row itself, with each field changed, and of no month.
 fn genuine_and_forged() -> Vec<Row> {
-    let mut rows = vec![some_row(), [u64::MAX; 8], [12_511_800, 0, 0, 0, 0, 0, 0, 0]];
-    for field in 0..8 {
-        let mut forged = some_row();
-        forged[field] += 1;
-        rows.push(forged);
+    let mut past_the_round = [0; ROW];
+    past_the_round[0] = fast::ROUND_MONTHS;
+    let mut rows = vec![some_row(), [u64::MAX; ROW], past_the_round];
+    for field in 0..ROW {
+        for change in [1, 2, 1 << 32, u64::MAX] {
+            let mut forged = some_row();
+            forged[field] = forged[field].wrapping_add(change);
+            rows.push(forged);
+        }
     }
     rows
 }
@@ -41,7 +45,7 @@ fn carries() {
 fn carries_by<B: MonthsBefore>() {
     for row in genuine_and_forged() {
         for count in [0, 1, -1, i64::MIN, i64::MAX, 12_511_799, -12_511_799] {
-            let mut out = [OTHER; 8];
+            let mut out = [OTHER; ROW];
             let number = fast::carry::<B>(&row, count, &mut out);
             assert_eq!((number, out), numbered(xinghe::carry(&row, count)));
         }
@@ -58,7 +62,7 @@ fn walks_by<B: MonthsBefore>() {
     let counts = [i64::MIN, 5, -3_636_247, -1, i64::MAX, 12_511_799, 1, -2];
     for row in genuine_and_forged() {
         for counts in [&counts[..], &[]] {
-            let (mut out, mut totals) = ([OTHER; 8], [OTHER; 3]);
+            let (mut out, mut totals) = ([OTHER; ROW], [OTHER; 3]);
             let number = fast::walk::<B>(&row, counts, &mut out, &mut totals);
             let expected = match xinghe::walk(&row, counts) {
                 Ok(end) => {
@@ -66,7 +70,7 @@ fn walks_by<B: MonthsBefore>() {
                     let totals = [below, end.sum.unsigned_abs(), end.answered];
                     (0, end.row, totals)
                 }
-                Err(number) => (number, [0; 8], [0; 3]),
+                Err(number) => (number, [0; ROW], [0; 3]),
             };
             assert_eq!((number, out, totals), expected);
         }
@@ -81,7 +85,7 @@ fn lists() {
 
 fn lists_by<B: MonthsBefore>() {
     for year in [0, 1, 2, 3, 1_011_600, 1_011_601, u64::MAX] {
-        for length in 0..=120 {
+        for length in 0..=13 * ROW + 20 {
             let mut list = vec![OTHER; length];
             let mut expected = list.clone();
             let number = fast::fill_year::<B>(year, &mut list);
@@ -104,7 +108,7 @@ fn years_places_and_days_by<B: MonthsBefore>() {
         let number = fast::year_head::<B>(year, &mut head);
         assert_eq!((number, head), numbered(xinghe::year_head(year)));
         for place in PLACES {
-            let mut row = [OTHER; 8];
+            let mut row = [OTHER; ROW];
             let number = fast::month_row::<B>(year, place, &mut row);
             assert_eq!((number, row), numbered(xinghe::month_row(year, place)));
             let mut day = [OTHER; 2];

@@ -1,6 +1,7 @@
 //! The questions of the rules paper with their refusals, answered by the walk.
 
 use crate::checkpoints::Checkpoints;
+use crate::fields::{self, RowNumbers};
 use crate::instants::{Cut, SunPoint};
 use crate::planets::Conjunctions;
 use crate::sixty;
@@ -51,28 +52,33 @@ pub fn date(day: u64) -> Result<(Row, u64), Refusal> {
     Ok((row, day - row.day + 1))
 }
 
-/// The row carried by a signed count of months.
-pub fn carry(row: &Row, count: i64) -> Result<Row, Refusal> {
-    let round = Checkpoints::shared();
-    let named = round.month(row.lunation).map(|month| month.row);
-    if named.as_ref() != Some(row) {
+/// The row carried by a signed count of months. It is handed in as numbers, any
+/// of which may be wrong; the first names its month.
+pub fn carry(row: &RowNumbers, count: i64) -> Result<RowNumbers, Refusal> {
+    let lunation = row[0];
+    if genuine(lunation).as_ref() != Some(row) {
         return Err(Refusal::ForgedRow);
     }
-    row.lunation
+    lunation
         .checked_add_signed(count)
-        .and_then(|lunation| round.month(lunation))
-        .map(|month| month.row)
+        .and_then(genuine)
         .ok_or(Refusal::CarryOutside)
+}
+
+/// The row of a month of the round.
+pub fn genuine(lunation: u64) -> Option<RowNumbers> {
+    let month = Checkpoints::shared().month(lunation)?;
+    Some(fields::row(&month.row))
 }
 
 /// Writes the rows of a year to the front of a lent list and gives their count.
 /// The rows past them stay as they were; refused, all of them do.
-pub fn fill_year(number: u64, lent: &mut [Row]) -> Result<usize, Refusal> {
+pub fn fill_year(number: u64, lent: &mut [RowNumbers]) -> Result<usize, Refusal> {
     let months = year(number)?.months;
     let front = lent.get_mut(..months.len());
     let front = front.ok_or(Refusal::ListTooShort)?;
     for (row, month) in front.iter_mut().zip(&months) {
-        *row = month.row;
+        *row = fields::row(&month.row);
     }
     Ok(months.len())
 }

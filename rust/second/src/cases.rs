@@ -4,14 +4,13 @@ use std::fmt::Display;
 use std::io::{self, Write};
 
 use crate::ask::{self, Refusal};
-use crate::checkpoints::Checkpoints;
-use crate::fields;
+use crate::fields::{self, RowNumbers, ROW};
 use crate::instants::Cut;
 use crate::name_cases;
 use crate::numbers::CHAPTER_YEARS;
 use crate::planet_cases;
 use crate::sixty;
-use crate::walker::{Month, Row};
+use crate::walker::Month;
 
 /// Years at the seams of the round, years in which the days of the middle terms
 /// decide the leap place or the count, and one that rounding gets wrong (11);
@@ -95,7 +94,9 @@ fn day_lines() -> [String; 9] {
     .map(|(year, place, day_of_month)| day(year, place, day_of_month))
 }
 
-fn carry_lines() -> [String; 9] {
+/// To and fro within the round and about its ends, then about the two era heads
+/// at which the side turns without a node, and from between them to the origin.
+fn carry_lines() -> [String; 13] {
     [
         (0, 5),
         (5, -3),
@@ -106,23 +107,27 @@ fn carry_lines() -> [String; 9] {
         (0, -1),
         (0, i64::MAX),
         (12_511_799, i64::MIN),
+        (2_085_299, 1),
+        (2_085_300, -1),
+        (4_170_600, 0),
+        (3_636_238, -3_636_238),
     ]
     .map(|(lunation, count)| carry(lunation, count))
 }
 
 fn step_lines() -> impl Iterator<Item = String> {
-    let on = [0, 36, 2_085_299, 12_511_798, 12_511_799].map(next);
-    let off = [0, 1, 37, 2_085_300, 12_511_799].map(back);
+    let on = [0, 36, 2_085_299, 4_170_599, 12_511_798, 12_511_799].map(next);
+    let off = [0, 1, 37, 2_085_300, 4_170_600, 12_511_799].map(back);
     on.into_iter().chain(off)
 }
 
-fn forged_lines() -> [String; 4] {
-    [
-        forged(0, 0),
-        forged(12_511_799, 1),
-        forged_next(5),
-        forged_back(5),
-    ]
+/// Each number of a row changed in turn, the last row's leap mark to 2 and the side
+/// of Xinghe 2's first to 3; then the remainder in single steps.
+fn forged_lines() -> impl Iterator<Item = String> {
+    let carries = [(0, 0), (12_511_799, 1), (3_636_238, 0)].into_iter();
+    let carries = carries
+        .flat_map(|(lunation, count)| (0..ROW).map(move |index| forged(lunation, index, count)));
+    carries.chain([forged_next(5), forged_back(5)])
 }
 
 fn fill_lines() -> impl Iterator<Item = String> {
@@ -147,17 +152,8 @@ fn head(number: u64) -> String {
 
 fn row(year: u64, place: u64) -> String {
     of_month("row", year, place, |month| {
-        let row = &month.row;
-        let sixty = month.sixty;
-        format!(
-            "{} {} {} {} {sixty} {} {}",
-            row.lunation,
-            row.number,
-            leap_mark(row),
-            row.day,
-            row.remainder,
-            row.length
-        )
+        let row = joined(&fields::row(&month.row));
+        format!("{row} {}", month.sixty)
     })
 }
 
@@ -217,28 +213,29 @@ fn back(lunation: u64) -> String {
 
 fn carried(question: String, lunation: u64, count: i64) -> String {
     let answer = ask::carry(&genuine_row(lunation), count);
-    line(
-        question,
-        answer.map(|row| format!("-> {}", whole_row(&row))),
-    )
+    line(question, answer.map(|row| format!("-> {}", joined(&row))))
 }
 
-fn forged(lunation: u64, count: i64) -> String {
-    carried_forged(format!("forged {lunation} {count}"), lunation, count)
+fn forged(lunation: u64, index: usize, count: i64) -> String {
+    let question = format!("forged {lunation} {index} {count}");
+    carried_forged(question, lunation, index, count)
 }
 
 fn forged_next(lunation: u64) -> String {
-    carried_forged(format!("forged-next {lunation}"), lunation, 1)
+    carried_forged(format!("forged-next {lunation}"), lunation, REMAINDER, 1)
 }
 
 fn forged_back(lunation: u64) -> String {
-    carried_forged(format!("forged-back {lunation}"), lunation, -1)
+    carried_forged(format!("forged-back {lunation}"), lunation, REMAINDER, -1)
 }
 
-/// A row with one field changed, which no carry may take.
-fn carried_forged(question: String, lunation: u64, count: i64) -> String {
+/// Where the small remainder stands in a row.
+const REMAINDER: usize = 6;
+
+/// A row with one number changed, which no carry may take.
+fn carried_forged(question: String, lunation: u64, index: usize, count: i64) -> String {
     let mut row = genuine_row(lunation);
-    row.remainder += 1;
+    row[index] = row[index].wrapping_add(1);
     let answer = ask::carry(&row, count).map(|_| "taken".to_string());
     line(question, answer)
 }
@@ -246,54 +243,24 @@ fn carried_forged(question: String, lunation: u64, count: i64) -> String {
 /// A list of `have` rows is lent; what is answered, then every lent row as it
 /// is afterwards.
 fn fill(year: u64, have: u64) -> Vec<String> {
-    let mut lent: Vec<Row> = (0..have).map(lent_row).collect();
+    let mut lent: Vec<RowNumbers> = (0..have).map(lent_row).collect();
     let answer = ask::fill_year(year, &mut lent).map(|count| count.to_string());
     let mut lines = vec![line(format!("fill {year} {have}"), answer)];
     for (index, row) in lent.iter().enumerate() {
-        lines.push(format!("lent {index} {}\n", whole_row(row)));
+        lines.push(format!("lent {index} {}\n", joined(row)));
     }
     lines
 }
 
 /// A row that is no month's, and is told from the others that are lent.
-fn lent_row(index: u64) -> Row {
-    Row {
-        lunation: 1_000 + index,
-        year: 0,
-        place: 0,
-        number: 0,
-        leap: false,
-        day: 0,
-        remainder: 0,
-        length: 0,
-    }
+fn lent_row(index: u64) -> RowNumbers {
+    let mut row = [0; ROW];
+    row[0] = 1_000 + index;
+    row
 }
 
-fn whole_row(row: &Row) -> String {
-    format!(
-        "{} {} {} {} {} {} {} {}",
-        row.lunation,
-        row.year,
-        row.place,
-        row.number,
-        leap_mark(row),
-        row.day,
-        row.remainder,
-        row.length
-    )
-}
-
-fn genuine_row(lunation: u64) -> Row {
-    let month = Checkpoints::shared().month(lunation);
-    month.expect("a month of the round").row
-}
-
-fn leap_mark(row: &Row) -> char {
-    if row.leap {
-        'L'
-    } else {
-        '-'
-    }
+fn genuine_row(lunation: u64) -> RowNumbers {
+    ask::genuine(lunation).expect("a month of the round")
 }
 
 fn of_month(question: &str, year: u64, place: u64, answer: impl Fn(&Month) -> String) -> String {

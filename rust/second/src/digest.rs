@@ -63,18 +63,8 @@ impl Digest {
     }
 
     fn feed_month(&mut self, month: &Month) {
-        let row = &month.row;
-        self.feed_all(&[
-            row.lunation,
-            row.year,
-            row.place,
-            row.number,
-            u64::from(row.leap),
-            row.day,
-            month.sixty,
-            row.remainder,
-            row.length,
-        ]);
+        self.feed_all(&fields::row(&month.row));
+        self.feed(month.sixty);
         let name = sixty::label(month.sixty, &[], &GANZHI).expect("a day of the sixty");
         for &byte in name {
             self.feed(u64::from(byte));

@@ -1,11 +1,11 @@
 //! A year's, a month's and a planet's answers as plain numbers, in the order in
-//! which they are written.
+//! which they are written. Nowhere else is a row listed as numbers.
 
 use crate::instants::SunPoint;
 use crate::nodes::Side;
 use crate::planets::{Conjunction, Conjunctions};
 use crate::stages::Stage;
-use crate::walker::{Month, Year};
+use crate::walker::{Month, Row, Year};
 
 /// Months before, leap remainder, months, leap place, day and remainder of the
 /// solstice.
@@ -18,6 +18,38 @@ pub fn head(year: &Year) -> [u64; 6] {
         year.solstice.day,
         year.solstice.remainder,
     ]
+}
+
+/// How many numbers a row has.
+pub const ROW: usize = 13;
+
+/// A row as it is written out and handed in.
+pub type RowNumbers = [u64; ROW];
+
+pub fn row(row: &Row) -> RowNumbers {
+    [
+        row.lunation,
+        row.year,
+        row.place,
+        row.number,
+        u64::from(row.leap),
+        row.day,
+        row.remainder,
+        row.length,
+        row.since_node.whole,
+        row.since_node.remainder,
+        side(row.side),
+        row.anomaly_day,
+        row.anomaly_rest,
+    ]
+}
+
+fn side(side: Side) -> u64 {
+    match side {
+        Side::AtNode => 0,
+        Side::Outside => 1,
+        Side::Inside => 2,
+    }
 }
 
 pub fn point(point: &SunPoint) -> [u64; 3] {
@@ -33,15 +65,10 @@ pub fn phases(month: &Month) -> [[u64; 3]; 4] {
 
 pub fn new_moon_node(month: &Month) -> [u64; 7] {
     let node = &month.new_moon_node;
-    let side = match node.side {
-        Side::AtNode => 0,
-        Side::Outside => 1,
-        Side::Inside => 2,
-    };
     [
         node.distance.whole,
         node.distance.remainder,
-        side,
+        side(node.side),
         u64::from(node.eclipse.marked),
         node.eclipse.distance.whole,
         node.eclipse.distance.remainder,

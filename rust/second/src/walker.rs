@@ -4,13 +4,13 @@ use std::ops::Range;
 
 use crate::anomaly::{AnomalyWalk, Correction};
 use crate::instants::{Cut, NewMoon, Phase, SunPoint};
-use crate::nodes::{FullMoonNode, NewMoonNode, NodeWalk};
+use crate::nodes::{FullMoonNode, NewMoonNode, NodeWalk, Side};
 use crate::numbers::{
     CHAPTER_LEAPS, CHAPTER_YEARS, ERAS, ERA_YEARS, LAST_DAY, LONG_FROM, ROUND_MONTHS, ROUND_YEARS,
 };
 use crate::planets::{Conjunctions, Planet, PlanetWalk};
 use crate::sixty;
-use crate::spans::carried;
+use crate::spans::{carried, Span};
 
 /// The month row of the rules paper.
 #[derive(Clone, Copy, Debug, PartialEq, Eq)]
@@ -24,6 +24,12 @@ pub struct Row {
     pub day: u64,
     pub remainder: u64,
     pub length: u64,
+    /// The new moon's distance since the last node, and its side.
+    pub since_node: Span,
+    pub side: Side,
+    /// The new moon's day of the anomaly, and the rest of it.
+    pub anomaly_day: u64,
+    pub anomaly_rest: u64,
 }
 
 /// Everything that is answered about one month.
@@ -119,23 +125,35 @@ impl MoonWalk {
 
     fn month(&self, name: Name) -> Month {
         let phases = self.phases();
+        let new_moon_node = self.node.new_moon();
+        let new_moon_correction = self.anomaly.new_moon(phases[0]);
         Month {
-            row: Row {
-                lunation: self.lunation,
-                year: name.year,
-                place: name.place,
-                number: name.number,
-                leap: name.leap,
-                day: self.new_moon.day,
-                remainder: self.new_moon.remainder,
-                length: self.length(),
-            },
+            row: self.row(name, &new_moon_node, &new_moon_correction),
             sixty: self.sixty,
             phases,
-            new_moon_node: self.node.new_moon(),
+            new_moon_node,
             full_moon_node: self.node.full_moon(),
-            new_moon_correction: self.anomaly.new_moon(phases[0]),
+            new_moon_correction,
             full_moon_correction: self.anomaly.full_moon(phases[2]),
+        }
+    }
+
+    /// Node and anomaly are taken from the month's other answers, so that the two
+    /// cannot part.
+    fn row(&self, name: Name, node: &NewMoonNode, correction: &Correction) -> Row {
+        Row {
+            lunation: self.lunation,
+            year: name.year,
+            place: name.place,
+            number: name.number,
+            leap: name.leap,
+            day: self.new_moon.day,
+            remainder: self.new_moon.remainder,
+            length: self.length(),
+            since_node: node.distance,
+            side: node.side,
+            anomaly_day: correction.anomaly_day,
+            anomaly_rest: correction.rest,
         }
     }
 }

@@ -2,6 +2,7 @@
 //! the sixty from 1.
 
 use second::ask::{self, Refusal};
+use second::fields::{self, RowNumbers, ROW};
 use second::nodes::Side;
 use second::{Checkpoints, Month, Row, Year};
 
@@ -31,6 +32,16 @@ fn solstice(number: u64) -> (u64, u64) {
 
 fn begins(row: &Row) -> (u64, u64, u64) {
     (row.day, row.remainder, row.length)
+}
+
+fn numbers(month: &Month) -> RowNumbers {
+    fields::row(&month.row)
+}
+
+/// Degrees, remainder, side, day of the anomaly and its rest, as a row has them.
+fn moon(month: &Month) -> [u64; 5] {
+    let [.., degrees, remainder, side, day, rest] = numbers(month);
+    [degrees, remainder, side, day, rest]
 }
 
 #[test]
@@ -71,6 +82,7 @@ fn month_nought_at_the_node() {
     );
     assert!(full_moon.eclipse.marked);
     assert_eq!(full_moon.eclipse.size, 1);
+    assert_eq!(moon(&month), [0, 0, 0, 1, 0]);
 }
 
 #[test]
@@ -96,12 +108,14 @@ fn xinghe_two_node_and_correction() {
     );
     assert_eq!(node.side, Side::Inside);
     assert!(!node.eclipse.marked);
-    let moon = month.new_moon_correction;
+    let corrected = month.new_moon_correction;
     assert_eq!(
-        (moon.anomaly_day, moon.rest, moon.correction),
+        (corrected.anomaly_day, corrected.rest, corrected.correction),
         (14, 188_982, 2_124)
     );
-    assert_eq!((moon.day, moon.remainder), (month.row.day - 1, 207_742));
+    let moved = (corrected.day, corrected.remainder);
+    assert_eq!(moved, (month.row.day - 1, 207_742));
+    assert_eq!(moon(&month), [136, 125_572, 2, 14, 188_982]);
 }
 
 #[test]
@@ -110,25 +124,38 @@ fn refusals() {
     assert_eq!(ask::year(1_011_601).unwrap_err(), Refusal::Year);
     assert_eq!(month(1, 0).row.length, 29);
     assert_eq!(ask::day_number(1, 0, 30), Err(Refusal::NoSuchDay));
-    let first = month(1, 0).row;
-    let forged = Row {
-        number: 12,
-        ..first
-    };
-    assert_eq!(ask::carry(&forged, 0), Err(Refusal::ForgedRow));
-    let last = month(1_011_600, 12).row;
+    let last = numbers(&month(1_011_600, 12));
     assert_eq!(ask::carry(&last, 1), Err(Refusal::CarryOutside));
+}
+
+/// Each number changed in turn. A row has no room for a third leap mark or a
+/// fourth side, its numbers have.
+#[test]
+fn forged_rows() {
+    for genuine in [(1, 0), (293_997, 7), (1_011_600, 12)].map(|at| month(at.0, at.1)) {
+        let genuine = numbers(&genuine);
+        assert_eq!(ask::carry(&genuine, 0), Ok(genuine));
+        for index in 0..ROW {
+            let value = genuine[index];
+            let near = [value.wrapping_add(1), value.wrapping_sub(1)];
+            for other in near.into_iter().chain([value + 2, value + 3, u64::MAX]) {
+                let mut forged = genuine;
+                forged[index] = other;
+                assert_eq!(ask::carry(&forged, 0), Err(Refusal::ForgedRow));
+            }
+        }
+    }
 }
 
 /// Rows past the year's count stay, and refused, all of them do.
 #[test]
 fn years_in_lent_lists() {
-    let lent = [month(1, 5).row; 14];
+    let lent = [numbers(&month(1, 5)); 14];
     for (number, length) in [(1, 12), (1, 14), (3, 13), (1_011_600, 13)] {
         let mut list = lent;
         let count = ask::fill_year(number, &mut list[..length]).unwrap();
-        let rows = year(number).months.into_iter().map(|month| month.row);
-        assert!(rows.eq(list[..count].iter().copied()));
+        let rows: Vec<_> = year(number).months.iter().map(numbers).collect();
+        assert_eq!(list[..count], rows);
         assert_eq!(list[count..], lent[count..]);
     }
     let too_short = Err(Refusal::ListTooShort);

@@ -9,12 +9,16 @@
 
 mod raw;
 
+pub use raw::ROW;
+
 /// What is answered, or the number of the refusal.
 pub type Answer<T> = Result<T, u64>;
 
 /// A month's row: month of the round, year, place, month number, leap mark,
-/// first day, small remainder, length.
-pub type Row = [u64; 8];
+/// first day, small remainder, length; and of its new moon: degrees since the
+/// last node, their remainder, side (0 at the node, 1 outside, 2 inside), day of
+/// the anomaly and its rest.
+pub type Row = [u64; ROW];
 
 /// The bytes of a day's name, and of a list of sixty names.
 pub const NAME: usize = 6;
@@ -139,7 +143,7 @@ pub fn ganzhi_names() -> [u8; NAMES] {
     names
 }
 
-/// Writes the rows of a year, of eight numbers each, to the front of the list.
+/// Writes the rows of a year, of [`ROW`] numbers each, to the front of the list.
 /// The rest of it stays as it was; refused, all of it does.
 pub fn fill_year(year: u64, list: &mut [u64]) -> Answer<()> {
     // SAFETY: a slice's pointer is not null and is aligned, also where the

@@ -5,12 +5,15 @@
 //! length and overlaps no other argument. Only the functions that take a pointer
 //! and a length beside it are unsafe.
 
+/// The header's `XINGHE_ROW_NUMBERS`: how many numbers a row has.
+pub const ROW: usize = 13;
+
 unsafe extern "C" {
     pub safe fn xinghe_year_head(year: u64, out: &mut [u64; 6]) -> u64;
-    pub safe fn xinghe_month_row(year: u64, place: u64, out: &mut [u64; 8]) -> u64;
+    pub safe fn xinghe_month_row(year: u64, place: u64, out: &mut [u64; ROW]) -> u64;
     pub safe fn xinghe_day_of_date(year: u64, place: u64, day: u64, out: &mut [u64; 2]) -> u64;
     pub safe fn xinghe_date_of_day(number: u64, out: &mut [u64; 3]) -> u64;
-    pub safe fn xinghe_carry(row: &[u64; 8], count: i64, out: &mut [u64; 8]) -> u64;
+    pub safe fn xinghe_carry(row: &[u64; ROW], count: i64, out: &mut [u64; ROW]) -> u64;
     pub safe fn xinghe_phases(year: u64, place: u64, out: &mut [u64; 12]) -> u64;
     pub safe fn xinghe_nodes(year: u64, place: u64, out: &mut [u64; 15]) -> u64;
     pub safe fn xinghe_corrections(year: u64, place: u64, out: &mut [u64; 14]) -> u64;
@@ -33,10 +36,10 @@ unsafe extern "C" {
 
     /// `counts` points to `length` numbers, and is neither null nor unaligned.
     pub fn xinghe_walk(
-        row: &[u64; 8],
+        row: &[u64; ROW],
         counts: *const i64,
         length: usize,
-        out: &mut [u64; 8],
+        out: &mut [u64; ROW],
         totals: &mut [u64; 3],
     ) -> u64;
 

@@ -1,5 +1,6 @@
-use Rattle.anomaly.specs.Corrections.{correctionAt}
-use Rattle.anomaly.proofs.Fair.{day-at}
+use mathlib.Core.Path.{sym, _∙_}
+use Rattle.anomaly.specs.Rates.{printed}
+use Rattle.anomaly.proofs.Fair.{day-at, in-halves}
 use borrow.Author.Needs.{needs}
 use Rattle.anomaly.proofs.correction_at.Statement.{statement}
 use Rattle.anomaly.proofs.correction_at.Tie as tie
@@ -29,8 +30,7 @@ correction-on-requires : tie.Need-correction-on-requires
 correction-on-requires c κs = day-at (c .args .instant)
 
 returns : tie.Need-returns
-unfolding correctionAt
-returns c = c .correction-on .ensures
+returns c = c .correction-on .ensures ∙ sym (in-halves printed (c .before .args .instant))
 
 pub correction-at-spec : {M : Type 1} → statement M
 correction-at-spec =

@@ -9,16 +9,16 @@ month-row-requires c κs = search needs
 values-requires : tie.Need-values-requires
 values-requires c κs = search needs
 
-row-fields-requires : tie.Need-row-fields-requires
-row-fields-requires c κs = search needs
+fields-requires : tie.Need-fields-requires
+fields-requires c κs = search needs
 
 number-requires : tie.Need-number-requires
 number-requires c κs = search needs
 
 returns : tie.Need-returns
-returns c = rw (c .number .ensures, c .before .row-fields .ensures, c .before .before .values .ensures, c .before .before .before .month-row .ensures) (refl, refl)
+returns c = rw (c .number .ensures, c .before .fields .ensures, c .before .before .values .ensures, c .before .before .before .month-row .ensures) (refl, refl)
 
 pub xinghe-month-row-spec : {M : Type 1} → statement M
 xinghe-month-row-spec =
     tie.close
-    (tie.spec month-row-requires values-requires row-fields-requires number-requires returns)
+    (tie.spec month-row-requires values-requires fields-requires number-requires returns)

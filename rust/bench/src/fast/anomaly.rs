@@ -1,5 +1,6 @@
 //! The moon's corrections, from a table worked out while compiling.
 
+use super::moon::{full_moon, new_moon, split, HALF_AT_FULL};
 use super::rows::{N, P};
 
 const T: u64 = 5_745_941;
@@ -49,38 +50,74 @@ const fn day(index: usize, sum: i64) -> Day {
     }
 }
 
-/// The anomaly's day, rest and half, the correction's sign and size, and the
-/// corrected day, remainder and half, of the phase at an instant in halves.
+/// How far a moon is in the round of the anomaly.
+#[derive(Clone, Copy)]
+pub struct Anomaly {
+    parts: u64,
+}
+
+impl Anomaly {
+    #[inline]
+    pub fn at(instant: u64) -> Self {
+        Self { parts: instant % T }
+    }
+
+    /// That of the next new moon. A month is a round and less than another.
+    #[inline]
+    pub fn next(self) -> Self {
+        let sum = self.parts + P - T;
+        Self {
+            parts: if sum >= T { sum - T } else { sum },
+        }
+    }
+
+    /// Day of the anomaly and its rest.
+    #[inline]
+    pub fn numbers(self) -> [u64; 2] {
+        let [days, rest] = split(self.parts);
+        [days + 1, rest]
+    }
+}
+
+/// The anomaly's day and rest, the correction's sign and size, and the corrected
+/// day and remainder, of the phase at an instant and half a part more or not.
 #[inline]
-fn corrected(instant: u64, day_at: impl Fn(usize) -> Day) -> [u64; 8] {
-    let anomaly = instant % (2 * T);
-    let index = anomaly / (2 * N);
-    let rest = anomaly % (2 * N);
-    let day = day_at(index as usize);
-    let change = day.change.unsigned_abs() * rest / (2 * SMALL_CIRCUIT);
+fn corrected(instant: u64, half: u64, day_at: impl Fn(usize) -> Day) -> [u64; 6] {
+    let [number, rest] = Anomaly::at(instant).numbers();
+    let day = day_at(number as usize - 1);
+    let change = day.change.unsigned_abs() * (2 * rest + half) / (2 * SMALL_CIRCUIT);
     let size = day.amount + change as i64 * day.change.signum();
-    let phase = instant / 2;
     // No correction comes before day 0, and none is of a whole day.
-    let moved = phase.wrapping_add_signed(-(day.sign * size));
+    let moved = instant.wrapping_add_signed(-(day.sign * size));
     [
-        index + 1,
-        rest / 2,
-        rest % 2,
+        number,
+        rest,
         u64::from(day.sign * size < 0),
         size as u64,
         moved / N,
         moved % N,
-        instant % 2,
     ]
 }
 
 #[inline]
 fn both(lunation: u64, day_at: impl Fn(usize) -> Day) -> [u64; 14] {
-    let new = corrected(2 * lunation * P, &day_at);
-    let full = corrected((2 * lunation + 1) * P, &day_at);
+    let new = corrected(new_moon(lunation), 0, &day_at);
+    let full = corrected(full_moon(lunation), HALF_AT_FULL, &day_at);
     [
-        new[0], new[1], new[3], new[4], new[5], new[6], full[0], full[1], full[2], full[3],
-        full[4], full[5], full[6], full[7],
+        new[0],
+        new[1],
+        new[2],
+        new[3],
+        new[4],
+        new[5],
+        full[0],
+        full[1],
+        HALF_AT_FULL,
+        full[2],
+        full[3],
+        full[4],
+        full[5],
+        HALF_AT_FULL,
     ]
 }
 

@@ -9,6 +9,7 @@
 
 mod anomaly;
 mod chapter;
+mod moon;
 mod names;
 mod node;
 mod planets;
@@ -17,7 +18,7 @@ mod stages;
 
 pub use chapter::{Division, MonthsBefore, Table};
 pub use names::LIST;
-pub use rows::{ROUND_DAYS, ROUND_MONTHS, ROUND_YEARS, SIXTY};
+pub use rows::{Row, ROUND_DAYS, ROUND_MONTHS, ROUND_YEARS, ROW, SIXTY};
 
 /// Writes the answer, or zeros, and returns the number.
 #[inline]
@@ -43,7 +44,7 @@ pub extern "C" fn year_head<B: MonthsBefore>(year: u64, out: &mut [u64; 6]) -> u
 }
 
 #[inline(never)]
-pub extern "C" fn month_row<B: MonthsBefore>(year: u64, place: u64, out: &mut [u64; 8]) -> u64 {
+pub extern "C" fn month_row<B: MonthsBefore>(year: u64, place: u64, out: &mut Row) -> u64 {
     let lunation = rows::lunation::<B>(year, place);
     let row = lunation.map(|lunation| rows::row_at(year - 1, place, lunation));
     written(row, out)
@@ -65,7 +66,7 @@ pub extern "C" fn date_of_day<B: MonthsBefore>(number: u64, out: &mut [u64; 3]) 
 }
 
 #[inline(never)]
-pub extern "C" fn carry<B: MonthsBefore>(row: &[u64; 8], count: i64, out: &mut [u64; 8]) -> u64 {
+pub extern "C" fn carry<B: MonthsBefore>(row: &Row, count: i64, out: &mut Row) -> u64 {
     written(rows::carried::<B>(row, count), out)
 }
 
@@ -136,13 +137,13 @@ pub extern "C" fn ganzhi_names(out: &mut [u8; LIST]) -> u64 {
 /// at the end.
 #[inline(never)]
 pub fn walk<B: MonthsBefore>(
-    row: &[u64; 8],
+    row: &Row,
     counts: &[i64],
-    out: &mut [u64; 8],
+    out: &mut Row,
     totals: &mut [u64; 3],
 ) -> u64 {
     if !rows::is_genuine::<B>(row) {
-        (*out, *totals) = ([0; 8], [0; 3]);
+        (*out, *totals) = ([0; ROW], [0; 3]);
         return 4;
     }
     let (mut month, mut answered) = (row[0], 0);

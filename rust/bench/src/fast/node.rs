@@ -1,5 +1,6 @@
 //! The moon's nodes and eclipses.
 
+use super::moon::{full_moon, new_moon, split, HALF_AT_FULL};
 use super::rows::{N, P};
 
 const M: u64 = 36_142_807;
@@ -18,15 +19,66 @@ const ERA_HEADS: [(u64, u64); 6] = [
     (115 * N + 203_874, OUTSIDE),
 ];
 
-/// 0 at the node; the head's side, turned where the M's passed are odd.
+/// The nodes are counted on from the origin. So counted they give the sides of the
+/// table in every era but the second, where each side is the other one.
 #[inline]
-fn side(lunation: u64, distance: u64) -> u64 {
-    let (head, side) = ERA_HEADS[(lunation / ERA_MONTHS) as usize];
-    let passed = (head + lunation % ERA_MONTHS * P) / M;
-    match (distance, passed % 2) {
-        (0, _) => 0,
-        (_, 0) => side,
-        _ => OUTSIDE + INSIDE - side,
+const fn nodes_passed(lunation: u64) -> u64 {
+    new_moon(lunation) / M + (lunation / ERA_MONTHS == 1) as u64
+}
+
+/// Outside after an even count of nodes.
+#[inline]
+const fn side_after(nodes: u64) -> u64 {
+    OUTSIDE + nodes % 2
+}
+
+// Checked while compiling: the era heads are those of the table.
+const _: () = {
+    let mut era = 0;
+    while era < ERA_HEADS.len() {
+        let head = era as u64 * ERA_MONTHS;
+        let (distance, side) = ERA_HEADS[era];
+        assert!(new_moon(head) % M == distance);
+        assert!(side_after(nodes_passed(head)) == side);
+        era += 1;
+    }
+};
+
+/// A new moon between the nodes.
+#[derive(Clone, Copy)]
+pub struct NewMoon {
+    /// Since the last node.
+    distance: u64,
+    /// Nodes passed.
+    nodes: u64,
+}
+
+impl NewMoon {
+    #[inline]
+    pub fn of(lunation: u64) -> Self {
+        Self {
+            distance: new_moon(lunation) % M,
+            nodes: nodes_passed(lunation),
+        }
+    }
+
+    /// A month later in the same era.
+    #[inline]
+    pub fn next(self) -> Self {
+        let sum = self.distance + P;
+        let passed = sum >= M;
+        Self {
+            distance: if passed { sum - M } else { sum },
+            nodes: self.nodes + u64::from(passed),
+        }
+    }
+
+    /// Degrees, remainder and side, which is 0 at the node.
+    #[inline]
+    pub fn numbers(self) -> [u64; 3] {
+        let [degrees, remainder] = split(self.distance);
+        let side = side_after(self.nodes) * u64::from(self.distance > 0);
+        [degrees, remainder, side]
     }
 }
 
@@ -47,21 +99,23 @@ fn eclipse(halves: u64) -> [u64; 5] {
 
 #[inline]
 pub fn nodes(lunation: u64) -> [u64; 15] {
-    let new = lunation * P % M;
-    let [marked, degrees, remainder, _, size] = eclipse(2 * new);
-    let full = (2 * lunation + 1) * P % (2 * M);
-    let at_full = eclipse(full);
+    let new = NewMoon::of(lunation);
+    let [degrees, remainder, side] = new.numbers();
+    let at_new = eclipse(2 * new.distance);
+    let full = full_moon(lunation) % M;
+    let [full_degrees, full_remainder] = split(full);
+    let at_full = eclipse(2 * full + HALF_AT_FULL);
     [
-        new / N,
-        new % N,
-        side(lunation, new),
-        marked,
         degrees,
         remainder,
-        size,
-        full / (2 * N),
-        full / 2 % N,
-        full % 2,
+        side,
+        at_new[0],
+        at_new[1],
+        at_new[2],
+        at_new[4],
+        full_degrees,
+        full_remainder,
+        HALF_AT_FULL,
         at_full[0],
         at_full[1],
         at_full[2],

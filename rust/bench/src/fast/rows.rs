@@ -1,6 +1,9 @@
 //! Years, months and days.
 
+use super::anomaly::Anomaly;
 use super::chapter::{self, MonthsBefore};
+use super::moon::new_moon;
+use super::node;
 
 pub const N: u64 = 208_530;
 pub const D: u64 = 16_860;
@@ -14,6 +17,10 @@ pub const SIXTY: u64 = 60;
 pub const ROUND_YEARS: u64 = 1_011_600;
 pub const ROUND_MONTHS: u64 = 12_511_800;
 pub const ROUND_DAYS: u64 = 369_481_020;
+
+/// A month's row in the order of include/xinghe.h.
+pub const ROW: usize = 13;
+pub type Row = [u64; ROW];
 
 /// Middle terms lie P parts apart, of which a day has so many.
 const TERM_DAY: u64 = 12 * D;
@@ -102,36 +109,101 @@ pub fn lunation<B: MonthsBefore>(number: u64, place: u64) -> Result<u64, u64> {
     }
 }
 
+/// The number of the month that holds the term so many after the solstice.
+#[inline]
+fn number(term: u64) -> u64 {
+    if term < 2 {
+        term + 11
+    } else {
+        term - 1
+    }
+}
+
 #[inline]
 fn length(remainder: u64) -> u64 {
     29 + u64::from(remainder >= LONG_FROM)
 }
 
+/// What a row takes from the moon.
+#[derive(Clone, Copy)]
+struct NewMoon {
+    lunation: u64,
+    day: u64,
+    remainder: u64,
+    node: node::NewMoon,
+    anomaly: Anomaly,
+}
+
+impl NewMoon {
+    #[inline]
+    fn of(lunation: u64) -> Self {
+        let instant = new_moon(lunation);
+        Self {
+            lunation,
+            day: instant / N,
+            remainder: instant % N,
+            node: node::NewMoon::of(lunation),
+            anomaly: Anomaly::at(instant),
+        }
+    }
+
+    /// The monthly additions.
+    #[inline]
+    fn next(self) -> Self {
+        let length = self.length();
+        Self {
+            lunation: self.lunation + 1,
+            day: self.day + length,
+            remainder: self.remainder + P - length * N,
+            node: self.node.next(),
+            anomaly: self.anomaly.next(),
+        }
+    }
+
+    #[inline]
+    fn length(&self) -> u64 {
+        length(self.remainder)
+    }
+
+    /// The row, where it is also known whether the place's term falls after its
+    /// month and whether the month is leap.
+    #[inline]
+    fn row(&self, past: u64, place: u64, behind: bool, leap: bool) -> Row {
+        let [degrees, parts, side] = self.node.numbers();
+        let [anomaly_day, rest] = self.anomaly.numbers();
+        [
+            self.lunation,
+            past + 1,
+            place,
+            number(place - u64::from(behind)),
+            u64::from(leap),
+            self.day,
+            self.remainder,
+            self.length(),
+            degrees,
+            parts,
+            side,
+            anomaly_day,
+            rest,
+        ]
+    }
+}
+
 #[inline]
-pub fn row_at(past: u64, place: u64, lunation: u64) -> [u64; 8] {
-    let (day, remainder) = (lunation * P / N, lunation * P % N);
-    let length = length(remainder);
+pub fn row_at(past: u64, place: u64, lunation: u64) -> Row {
+    let moon = NewMoon::of(lunation);
     let term = (12 * past + place) * P;
     // From the leap month on, a place's term falls after its month; the leap
     // month comes after the term before, too. Both are worked out for every
     // month, as a jump would often be guessed wrongly.
-    let behind = term >= (day + length) * TERM_DAY;
-    let leap = behind & (term < day * TERM_DAY + P);
-    [
-        lunation,
-        past + 1,
-        place,
-        (place + 10 - u64::from(behind)) % 12 + 1,
-        u64::from(leap),
-        day,
-        remainder,
-        length,
-    ]
+    let behind = term >= (moon.day + moon.length()) * TERM_DAY;
+    let leap = behind & (term < moon.day * TERM_DAY + P);
+    moon.row(past, place, behind, leap)
 }
 
 /// The row of a month of the round.
 #[inline]
-pub fn row_of<B: MonthsBefore>(lunation: u64) -> [u64; 8] {
+pub fn row_of<B: MonthsBefore>(lunation: u64) -> Row {
     let past = past_of(lunation);
     row_at(past, lunation - B::months_before(past), lunation)
 }
@@ -145,9 +217,14 @@ fn past_of(lunation: u64) -> u64 {
 }
 
 #[inline]
-pub fn is_genuine<B: MonthsBefore>(row: &[u64; 8]) -> bool {
-    // Field by field: two arrays would be compared by a call of the C library.
-    row[0] < ROUND_MONTHS && row.iter().eq(&row_of::<B>(row[0]))
+pub fn is_genuine<B: MonthsBefore>(row: &Row) -> bool {
+    if row[0] >= ROUND_MONTHS {
+        return false;
+    }
+    // All fields at once, without a jump for each; as arrays the two would be
+    // compared by a call of the C library.
+    let fields = row.iter().zip(row_of::<B>(row[0]));
+    fields.fold(0, |differing, (a, b)| differing | (a ^ b)) == 0
 }
 
 /// The month of the round so many months on.
@@ -158,7 +235,7 @@ pub fn moved(lunation: u64, count: i64) -> Option<u64> {
 }
 
 #[inline]
-pub fn carried<B: MonthsBefore>(row: &[u64; 8], count: i64) -> Result<[u64; 8], u64> {
+pub fn carried<B: MonthsBefore>(row: &Row, count: i64) -> Result<Row, u64> {
     if !is_genuine::<B>(row) {
         return Err(4);
     }
@@ -241,23 +318,12 @@ pub fn fill<B: MonthsBefore>(number: u64, out: &mut [u64]) -> u64 {
     0
 }
 
-/// The monthly addition, from row to row.
+/// From row to row by additions; a year lies in one era.
 #[inline(always)]
-fn step_rows<const COUNT: u64>(rows: &mut [[u64; 8]], past: u64, before: u64, leap: u64) {
-    let (mut day, mut remainder) = (before * P / N, before * P % N);
+fn step_rows<const COUNT: u64>(rows: &mut [Row], past: u64, before: u64, leap: u64) {
+    let mut moon = NewMoon::of(before);
     for (place, row) in (0..COUNT).zip(rows) {
-        let length = length(remainder);
-        *row = [
-            before + place,
-            past + 1,
-            place,
-            (place + 10 - u64::from(place >= leap)) % 12 + 1,
-            u64::from(place == leap),
-            day,
-            remainder,
-            length,
-        ];
-        day += length;
-        remainder = remainder + P - length * N;
+        *row = moon.row(past, place, place >= leap, place == leap);
+        moon = moon.next();
     }
 }

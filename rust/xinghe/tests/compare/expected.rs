@@ -3,29 +3,23 @@
 use second::ask::Refusal;
 use second::planets::Conjunctions;
 use second::stages::Stage;
-use second::{fields, Month, Row};
-use xinghe::Stages;
+use second::{fields, Month};
+use xinghe::{Row, Stages};
 
 /// The round's last year, month and day.
 pub const LAST_YEAR: u64 = second::numbers::ROUND_YEARS;
 pub const LAST_MONTH: u64 = second::numbers::ROUND_MONTHS - 1;
 pub const LAST_DAY: u64 = second::numbers::LAST_DAY;
 
+/// The most months that a year has.
+pub const MONTHS: usize = 13;
+
 pub fn number<T>(answer: Result<T, Refusal>) -> Result<T, u64> {
     answer.map_err(|refusal| refusal as u64)
 }
 
-pub fn row(row: &Row) -> [u64; 8] {
-    [
-        row.lunation,
-        row.year,
-        row.place,
-        row.number,
-        u64::from(row.leap),
-        row.day,
-        row.remainder,
-        row.length,
-    ]
+pub fn row(month: &Month) -> Row {
+    fields::row(&month.row)
 }
 
 pub fn phases(month: &Month) -> [u64; 12] {

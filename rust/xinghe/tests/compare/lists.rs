@@ -1,14 +1,15 @@
 //! Whole years in lent lists of every length.
 
 use second::ask;
+use xinghe::ROW;
 
-use crate::expected::{self, LAST_YEAR};
+use crate::expected::{self, LAST_YEAR, MONTHS};
 use crate::random::Random;
 use crate::tally::Tally;
 
 const SENTINEL: u64 = 0x5a5a_a5a5_5a5a_a5a5;
 /// The rows of the longest year and twenty numbers more.
-const LONGEST: usize = 8 * 13 + 20;
+const LONGEST: usize = MONTHS * ROW + 20;
 
 #[test]
 fn years_in_lists_of_every_length() {
@@ -18,23 +19,22 @@ fn years_in_lists_of_every_length() {
     let drawn = (0..500).map(|_| 1 + random.below(LAST_YEAR));
     for number in edges.into_iter().chain(drawn) {
         let year = ask::year(number).expect("a year of the round");
-        let rows = year.months.iter().map(|month| expected::row(&month.row));
-        let rows: Vec<u64> = rows.flatten().collect();
+        let rows: Vec<u64> = year.months.iter().flat_map(expected::row).collect();
         for length in 0..=LONGEST {
             compare_list(&mut tally, number, length, &rows);
         }
     }
-    tally.end(60_000);
+    tally.end(90_000);
 }
 
-/// Numbers stand before and behind the lent part too, to show that nothing is
-/// written outside it.
+/// A row's numbers stand before and behind the lent part too, to show that
+/// nothing is written outside it.
 fn compare_list(tally: &mut Tally, year: u64, length: usize, rows: &[u64]) {
-    let mut memory = [SENTINEL; 8 + LONGEST + 8];
-    let answered = xinghe::fill_year(year, &mut memory[8..8 + length]);
-    let mut expected = [SENTINEL; 8 + LONGEST + 8];
+    let mut memory = [SENTINEL; ROW + LONGEST + ROW];
+    let answered = xinghe::fill_year(year, &mut memory[ROW..ROW + length]);
+    let mut expected = [SENTINEL; ROW + LONGEST + ROW];
     if rows.len() <= length {
-        expected[8..8 + rows.len()].copy_from_slice(rows);
+        expected[ROW..ROW + rows.len()].copy_from_slice(rows);
         tally.same(answered, Ok(()));
     } else {
         tally.same(answered, Err(6));
@@ -52,7 +52,7 @@ fn refused_years_leave_every_list() {
             assert!(list.iter().all(|number| *number == SENTINEL));
         }
     }
-    tally.end(600);
+    tally.end(900);
 }
 
 /// An empty list of its own, whose pointer comes from no memory at all.

@@ -1,9 +1,11 @@
 //! The whole round, every month of it as the walk yields it.
 
 use second::instants::Cut;
+use second::numbers::ERA_YEARS;
 use second::{sixty, Month, Walker, Year};
+use xinghe::{Row, ROW};
 
-use crate::expected;
+use crate::expected::{self, MONTHS};
 use crate::tally::Tally;
 
 /// Cuts, days and steps are compared in one of so many years, to keep the test
@@ -11,19 +13,23 @@ use crate::tally::Tally;
 /// fall as before, so that years of every kind come up.
 const SPARSE: u64 = 7;
 
+/// The first years of the eras are chosen, too: the side starts anew in them.
+fn is_chosen(year: &Year) -> bool {
+    year.number % SPARSE == 1 || year.number % ERA_YEARS == 1
+}
+
 #[test]
 fn every_month_of_the_round() {
     let mut tally = Tally::new("round");
     let mut before = None;
     for year in Walker::from_origin() {
-        let chosen = year.number % SPARSE == 1;
+        let chosen = is_chosen(&year);
         compare_year(&mut tally, &year);
         if chosen {
             compare_cuts(&mut tally, &year);
         }
         for month in &year.months {
-            let row = expected::row(&month.row);
-            compare_month(&mut tally, month);
+            let row = compare_month(&mut tally, month);
             if chosen {
                 compare_days(&mut tally, month);
                 compare_steps(&mut tally, before, row);
@@ -39,10 +45,10 @@ fn every_month_of_the_round() {
 fn compare_year(tally: &mut Tally, year: &Year) {
     let number = year.number;
     tally.same(xinghe::year_head(number), Ok(second::fields::head(year)));
-    let mut list = [0; 13 * 8];
+    let mut list = [0; MONTHS * ROW];
     tally.same(xinghe::fill_year(number, &mut list), Ok(()));
-    for (month, row) in year.months.iter().zip(list.chunks(8)) {
-        assert_eq!(row, expected::row(&month.row));
+    for (month, row) in year.months.iter().zip(list.chunks(ROW)) {
+        assert_eq!(row, expected::row(month));
     }
     let past = year.months.len() as u64;
     tally.same(xinghe::month_row(number, past), Err(2));
@@ -61,9 +67,10 @@ fn compare_cuts(tally: &mut Tally, year: &Year) {
     }
 }
 
-fn compare_month(tally: &mut Tally, month: &Month) {
+/// Gives the month's row, whose last numbers are the first ones of two pages.
+fn compare_month(tally: &mut Tally, month: &Month) -> Row {
     let (year, place) = (month.row.year, month.row.place);
-    let row = expected::row(&month.row);
+    let row = expected::row(month);
     tally.same(xinghe::month_row(year, place), Ok(row));
     let phases = expected::phases(month);
     tally.same(xinghe::phases(year, place), Ok(phases));
@@ -71,6 +78,9 @@ fn compare_month(tally: &mut Tally, month: &Month) {
     tally.same(xinghe::nodes(year, place), Ok(nodes));
     let corrections = expected::corrections(month);
     tally.same(xinghe::corrections(year, place), Ok(corrections));
+    assert_eq!(row[8..=10], nodes[..3]);
+    assert_eq!(row[11..], corrections[..2]);
+    row
 }
 
 /// The first and the last day of a month, and the day past it.
@@ -88,7 +98,7 @@ fn compare_days(tally: &mut Tally, month: &Month) {
 }
 
 /// From the month before to this one, and back.
-fn compare_steps(tally: &mut Tally, before: Option<[u64; 8]>, row: [u64; 8]) {
+fn compare_steps(tally: &mut Tally, before: Option<Row>, row: Row) {
     match before {
         Some(before) => {
             tally.same(xinghe::carry(&before, 1), Ok(row));

@@ -4,9 +4,9 @@
 use std::hint::black_box;
 
 use second::sixty;
-use xinghe::Answer;
+use xinghe::{Answer, Row, ROW};
 
-use crate::expected::{LAST_DAY, LAST_YEAR};
+use crate::expected::{LAST_DAY, LAST_YEAR, MONTHS};
 use crate::random::Random;
 use crate::raw;
 use crate::tally::Tally;
@@ -116,7 +116,7 @@ fn carries_and_walks() {
         let year = 1 + random.below(LAST_YEAR);
         let mut row = xinghe::month_row(year, random.below(12)).expect("a month");
         if random.below(4) == 0 {
-            row[random.below(8) as usize] ^= 1 << random.below(64);
+            row[random.below(ROW as u64) as usize] ^= 1 << random.below(64);
         }
         let count = random.count();
         compare(&mut tally, xinghe::carry(&row, count), |out| {
@@ -127,8 +127,8 @@ fn carries_and_walks() {
     tally.end(100_000);
 }
 
-fn compare_walk(tally: &mut Tally, row: &[u64; 8], counts: &[i64]) {
-    let (mut out, mut totals) = ([SENTINEL; 8], [SENTINEL; 3]);
+fn compare_walk(tally: &mut Tally, row: &Row, counts: &[i64]) {
+    let (mut out, mut totals) = ([SENTINEL; ROW], [SENTINEL; 3]);
     // SAFETY: pointer and length are those of a slice.
     let number =
         unsafe { raw::xinghe_walk(row, counts.as_ptr(), counts.len(), &mut out, &mut totals) };
@@ -138,7 +138,7 @@ fn compare_walk(tally: &mut Tally, row: &[u64; 8], counts: &[i64]) {
             let totals = [below, end.sum.unsigned_abs(), end.answered];
             (0, end.row, totals)
         }
-        Err(number) => (number, [0; 8], [0; 3]),
+        Err(number) => (number, [0; ROW], [0; 3]),
     };
     tally.same((number, out, totals), expected);
 }
@@ -146,12 +146,15 @@ fn compare_walk(tally: &mut Tally, row: &[u64; 8], counts: &[i64]) {
 /// A list that is too short, or the list of a year that is none, stays.
 #[test]
 fn refused_lists() {
-    let mut list = [SENTINEL; 104];
-    for (year, length, number) in [(0, 104, 1), (LAST_YEAR, 103, 6), (1, 95, 6), (1, 0, 6)] {
+    const LONG: usize = MONTHS * ROW;
+    const COMMON: usize = LONG - ROW;
+    let mut list = [SENTINEL; LONG];
+    let last = (LAST_YEAR, LONG - 1, 6);
+    for (year, length, number) in [(0, LONG, 1), last, (1, COMMON - 1, 6), (1, 0, 6)] {
         // SAFETY: the list is as long as the length, or longer.
         let answered = unsafe { raw::xinghe_fill_year(year, list.as_mut_ptr(), length) };
         assert_eq!(answered, number);
-        assert_eq!(list, [SENTINEL; 104]);
+        assert_eq!(list, [SENTINEL; LONG]);
     }
 }
 

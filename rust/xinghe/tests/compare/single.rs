@@ -53,7 +53,7 @@ fn compare_place(tally: &mut Tally, year: u64, place: u64) {
 }
 
 fn compare_month(tally: &mut Tally, year: u64, place: u64, month: Result<&Month, u64>) {
-    let row = month.map(|month| expected::row(&month.row));
+    let row = month.map(expected::row);
     tally.same(xinghe::month_row(year, place), row);
     tally.same(xinghe::phases(year, place), month.map(expected::phases));
     tally.same(xinghe::nodes(year, place), month.map(expected::nodes));

@@ -1,17 +1,17 @@
 //! Walks, against the paper's walk done on the month alone.
 
-use second::{Checkpoints, Row};
-use xinghe::Walk;
+use second::ask;
+use xinghe::{Row, Walk};
 
 use crate::carries::some_rows;
-use crate::expected::{self, LAST_MONTH};
+use crate::expected::LAST_MONTH;
 use crate::random::Random;
 use crate::tally::Tally;
 
 /// The paper's walk: the month moves where the sum is a month of the round,
 /// in numbers wide enough for any sum; the row is the second program's.
 fn walked(start: &Row, counts: &[i64]) -> Walk {
-    let (mut month, mut sum, mut answered) = (i128::from(start.lunation), 0, 0);
+    let (mut month, mut sum, mut answered) = (i128::from(start[0]), 0, 0);
     for count in counts {
         let next = month + i128::from(*count);
         if (0..=i128::from(LAST_MONTH)).contains(&next) {
@@ -20,9 +20,8 @@ fn walked(start: &Row, counts: &[i64]) -> Walk {
             answered += 1;
         }
     }
-    let last = Checkpoints::shared().month(month as u64);
     Walk {
-        row: expected::row(&last.expect("a month of the round").row),
+        row: ask::genuine(month as u64).expect("a month of the round"),
         sum: i64::try_from(sum).expect("a sum within the round"),
         answered,
     }
@@ -38,7 +37,7 @@ fn random_lists() {
         let length = if random.below(50) == 0 { 2_000 } else { 40 };
         let length = random.below(length);
         let counts: Vec<_> = (0..length).map(|_| random.count()).collect();
-        let answered = xinghe::walk(&expected::row(&row), &counts);
+        let answered = xinghe::walk(&row, &counts);
         tally.same(answered, Ok(walked(&row, &counts)));
     }
     tally.end(6_000);
@@ -61,7 +60,7 @@ fn edge_lists() {
     ];
     for row in some_rows(&mut random, 40) {
         for counts in lists {
-            let answered = xinghe::walk(&expected::row(&row), counts);
+            let answered = xinghe::walk(&row, counts);
             tally.same(answered, Ok(walked(&row, counts)));
         }
     }
@@ -75,7 +74,7 @@ fn walk_and_carries() {
     let mut tally = Tally::new("walks and carries");
     let rows = some_rows(&mut random, 200);
     for _ in 0..10_000 {
-        let start = expected::row(&random.pick(&rows));
+        let start = random.pick(&rows);
         let counts: [i64; 20] = std::array::from_fn(|_| random.count());
         let mut row = start;
         for count in counts {

@@ -24,42 +24,44 @@ month : (a : tie.Start) → rule .before (a .args .y) + (a .args .lunation - a .
 month a = omega (arith, from a, a .pre .2)
 
 -- the next month's first day
-next : (a : tie.After-length-of) → a .before .new-moon .result .day + a .length-of .result ≡ newMoon means (suc (a .before .before .args .lunation))
+next : (a : tie.After-length-of) → (let e = a .before .before in e .elements-of .result .moon .day + a .length-of .result ≡ newMoon means (suc (e .before .args .lunation)))
 unfolding rowOf
-next a = rw (a .length-of .ensures, a .before .new-moon .ensures) (row-end (a .before .before .args .lunation))
+next a = let e = a .before .before in rw (a .length-of .ensures, e .elements-of .ensures) (row-end (e .before .args .lunation))
 
-new-moon-requires : tie.Need-new-moon-requires
-new-moon-requires c κs = search needs
+elements-of-requires : tie.Need-elements-of-requires
+elements-of-requires c κs = search needs
 
 length-of-requires : tie.Need-length-of-requires
 length-of-requires c κs = search needs
 
 add-next : tie.Need-add-next
-add-next c = let a = c .before .before in omega (arith, next c, moon-high means (sound .moon) (suc (a .args .lunation)), a .pre .0)
+add-next c = let a = c .before .before .before in omega (arith, next c, moon-high means (sound .moon) (suc (a .args .lunation)), a .pre .0)
 
 constants-requires : tie.Need-constants-requires
 constants-requires c κs = search needs
 
 sub-name-from : tie.Need-sub-name-from
-sub-name-from c = from (c .before .before .before)
+sub-name-from c = from (c .before .before .before .before)
 
 name-from-requires : tie.Need-name-from-requires
 unfolding placeOf rowOf
 name-from-requires c κs =
-    let a = c .before .before .before in
+    let e = c .before .before .before in
+    let a = e .before in
     let m = a .args .lunation in
     rw (c .constants .ensures) (
       sound,
       omega (arith, a .pre .1, year-in-round xinghe sound m (a .pre .0)),
       rw (a .pre .2, a .pre .1) (stands xinghe sound m (a .pre .0) .place),
-      rw (month a, c .before .before .new-moon .ensures) (row-day m),
+      rw (month a, e .elements-of .ensures) (row-day m),
       rw (month a, add-one m) (next (c .before)),
     )
 
 row-named-requires : tie.Need-row-named-requires
 row-named-requires c κs =
-    let a = c .before .before .before .before in
-    (rw (c .before .constants .ensures) at (c .name-from .ensures) ∙ ap (nameOf xinghe) (month a), c .before .before .before .new-moon .ensures)
+    let e = c .before .before .before .before in
+    let a = e .before in
+    (a .pre .0, rw (c .before .constants .ensures) at (c .name-from .ensures) ∙ ap (nameOf xinghe) (month a), e .elements-of .ensures)
 
 returns : tie.Need-returns
 returns c = search needs
@@ -68,7 +70,7 @@ pub row-from-spec : {M : Type 1} → statement M
 row-from-spec =
     tie.close
     (tie.spec
-    new-moon-requires
+    elements-of-requires
     length-of-requires
     add-next
     constants-requires

@@ -1,61 +1,28 @@
-use Prim.Native.Nat.{_+_, _-_, _<_}
+use Prim.Native.Nat.{_-_, _+_, _<_}
 use native.Mathlib.Omega.{arith}
-use mathlib.Core.Path.{ap, sym, _∙_}
-use Rattle.lunisolar.specs.Calendars.{Stands}
-use Rattle.lunisolar.specs.Names.{nameOf}
 use Rattle.lunisolar.proofs.Rounds.{in-round}
 use Rattle.units.specs.Xinghe.{xinghe, roundMonths}
 use Rattle.units.proofs.Sound.{sound}
-use Rattle.calendar.specs.declared.RowAnswer.{RowAnswer}
-use Rattle.calendar.proofs.Round.{head-found, head-leap, head-stands, head-row}
+use Rattle.calendar.proofs.Round.{head-stands}
 use borrow.Author.Needs.{needs}
 use Rattle.calendar.proofs.rows.row_under.Statement.{statement}
 use Rattle.calendar.proofs.rows.row_under.Tie as tie
 
--- where the month stands
-stood : (a : tie.Start) → Stands xinghe (a .args .year - 1) (a .args .place) (a .args .head .before + a .args .place)
-stood a = head-stands (a .args .year) (a .args .head) (a .pre .0) (a .args .place) (a .pre .1)
-
 below : (a : tie.Start) → a .args .head .before + a .args .place < roundMonths
-below a = in-round xinghe sound (a .args .year - 1) (a .args .place) _ (stood a)
+below a = in-round xinghe sound (a .args .year - 1) (a .args .place) _ (head-stands (a .args .year) (a .args .head) (a .pre .0) (a .args .place) (a .pre .1))
 
-constants-requires : tie.Need-constants-requires
-constants-requires c κs = search needs
+add-elements-of : tie.Need-add-elements-of
+add-elements-of c = omega (arith, below (c .before))
 
-sub-name-under : tie.Need-sub-name-under
-sub-name-under c = let a = c .before in head-found (a .args .year) (a .args .head) (a .pre .0) .written
+elements-of-requires : tie.Need-elements-of-requires
+elements-of-requires c κs = below (c .before)
 
-name-under-requires : tie.Need-name-under-requires
-name-under-requires c κs =
-    let a = c .before in
-    let s = stood a in
-    rw (c .constants .ensures) (sound, omega (arith, s .year), head-leap (a .args .year) (a .args .head) (a .pre .0), s .place)
-
-add-lunation : tie.Need-add-lunation
-add-lunation c = omega (arith, below (c .before .before .before))
-
-new-moon-requires : tie.Need-new-moon-requires
-new-moon-requires c κs = omega (arith, below (c .before .before .before))
-
-row-named-requires : tie.Need-row-named-requires
-row-named-requires c κs =
-    let a = c .before .before .before .before in
-    let n = rw (c .before .before .before .constants .ensures) at (c .before .before .name-under .ensures) in
-    (n ∙ ap (nameOf xinghe) (sym (stood a .month)), c .new-moon .ensures)
+row-with-requires : tie.Need-row-with-requires
+row-with-requires c κs = search needs
 
 returns : tie.Need-returns
-returns c =
-    let a = c .before .before .before .before .before in
-    ap RowAnswer.Answered (c .row-named .ensures) ∙ head-row (a .args .year) (a .args .head) (a .pre .0) (a .args .place) (a .pre .1)
+returns c = search needs
 
 pub row-under-spec : {M : Type 1} → statement M
 row-under-spec =
-    tie.close
-    (tie.spec
-    constants-requires
-    sub-name-under
-    name-under-requires
-    add-lunation
-    new-moon-requires
-    row-named-requires
-    returns)
+    tie.close (tie.spec add-elements-of elements-of-requires row-with-requires returns)

@@ -30,8 +30,8 @@ text-requires c κs = search needs
 number-requires : tie.Need-number-requires Inv-loop μ-loop
 number-requires c κs = search needs
 
-with-carried-row-requires : tie.Need-with-carried-row-requires Inv-loop μ-loop
-with-carried-row-requires c κs = search needs
+with-row-requires : tie.Need-with-row-requires Inv-loop μ-loop
+with-row-requires c κs = search needs
 
 write-requires : tie.Need-write-requires Inv-loop μ-loop
 write-requires c κs = search needs
@@ -61,7 +61,7 @@ write-lent-spec =
     slice-aggregate-text
     text-requires
     number-requires
-    with-carried-row-requires
+    with-row-requires
     write-requires
     add-i
     loop-less

@@ -4,14 +4,15 @@ use mathlib.Core.Path.{_≡_}
 use Prim.Native.Nat.{_-_, _≤_}
 use native.Mathlib.Omega.{arith}
 use lib.Seq.{paste, paste-zero, paste-suc, length-paste}
+use Rattle.calendar.specs.Rows.{fieldCount}
 use Rattle.xinghe.proofs.years.put.Statement.{statement}
 use Rattle.xinghe.proofs.years.put.Tie as tie
 
 abbrev Inv-loop : tie.InvT-loop
-Inv-loop out₀ at numbers j₀ out j = (j ≤ 8) × (out ≡ paste out₀ at numbers j)
+Inv-loop out₀ at numbers j₀ out j = (j ≤ fieldCount) × (out ≡ paste out₀ at numbers j)
 
 abbrev μ-loop : tie.MeasureT-loop
-μ-loop out₀ at numbers j₀ out j = 8 - j
+μ-loop out₀ at numbers j₀ out j = fieldCount - j
 
 -- the list stays as long as it was
 as-long : (a : tie.At-loop Inv-loop μ-loop) → length (a .loop .out) ≡ length (a .before .args .out .now)
@@ -52,7 +53,7 @@ same-length : tie.Need-same-length Inv-loop μ-loop
 same-length c = as-long (c .before)
 
 returns : tie.Need-returns Inv-loop μ-loop
-returns c = let e : c .before .loop .j ≡ 8 = omega arith in rw e at (c .before .loop .inv .1)
+returns c = let e : c .before .loop .j ≡ fieldCount = omega arith in rw e at (c .before .loop .inv .1)
 
 pub put-spec : {M : Type 1} → statement M
 put-spec =
