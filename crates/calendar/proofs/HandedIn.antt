@@ -22,7 +22,6 @@ use Rattle.calendar.specs.Rows.{bitOf, fieldCount, rowFields, rowOf}
 use Rattle.calendar.specs.Answers.{rowNumber}
 use Rattle.calendar.specs.Carries.{sameFields, months, shown, carried, namedMonth, genuineFields, carriedFields}
 use Rattle.calendar.specs.declared.MonthRow.{MonthRow}
-use Rattle.calendar.specs.declared.RowAnswer.{RowAnswer}
 use Rattle.calendar.proofs.Lawful.{lawful}
 
 -- EVERY MONTH'S OWN NUMBERS ARE GENUINE

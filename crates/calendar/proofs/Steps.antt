@@ -3,7 +3,6 @@
 use mathlib.Core.Path.{_≡_, refl, sym}
 use Prim.Native.Nat.{ℕ, suc, _-_, _<_}
 use native.Mathlib.Omega.{arith}
-use Rattle.reckoning.specs.Rule.{monthCount}
 use Rattle.reckoning.specs.Means.{newMoon, newMoonRest}
 use Rattle.reckoning.proofs.Leaps.{year-low, year-ends}
 use Rattle.lunisolar.proofs.Rounds.{in-round}

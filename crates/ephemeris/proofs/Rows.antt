@@ -1,6 +1,6 @@
 -- What a month's row keeps of its new moon is what its pages say: the eclipse page and the correction page of the row's year and place.
 -- Assumes nothing.
-use mathlib.Core.Path.{_≡_, refl, sym, ap}
+use mathlib.Core.Path.{_≡_, sym, ap}
 use Prim.Native.Nat.{ℕ}
 use Rattle.node.specs.Eclipses.{nodeAt}
 use Rattle.node.specs.Nodes.{nodesOf}

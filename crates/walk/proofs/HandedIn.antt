@@ -1,6 +1,6 @@
 -- Walks from rows handed in as numbers: a row handed in as its own numbers is walked as the row is, and what is no genuine row's is refused.
 -- Assumes nothing.
-use mathlib.Core.Path.{_≡_, refl, sym}
+use mathlib.Core.Path.{_≡_, refl}
 use mathlib.Core.Bool.{Bool, true, false}
 use mathlib.Core.List.{List}
 use Prim.Native.Nat.{ℕ}

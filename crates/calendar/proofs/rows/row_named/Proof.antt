@@ -1,5 +1,5 @@
 use native.Mathlib.Omega.{arith}
-use mathlib.Core.Path.{refl, ap, _∙_}
+use mathlib.Core.Path.{refl, ap}
 use Rattle.anomaly.proofs.Steps.{into-is-anomaly}
 use Rattle.calendar.specs.Rows.{rowOf}
 use Rattle.calendar.specs.declared.elements.Elements.{Elements}

@@ -1,4 +1,3 @@
-use mathlib.Core.Path.{sym}
 use Rattle.node.proofs.Steps.{second-era}
 use borrow.Author.Needs.{needs}
 use Rattle.node.proofs.passages.in_second_era.Statement.{statement}
