@@ -1,15 +1,19 @@
-.PHONY: test year head head-rust day bench
+.PHONY: test year head head-rust day volume bench
 
-# The year or the date to print. It is anybody's text: make takes it as it was
-# given, and a recipe gets it by the environment, so that neither make nor the
-# shell runs it.
+# The year or the date to print, the years of a volume. It is anybody's text: make
+# takes it as it was given, and a recipe gets it by the environment, so that
+# neither make nor the shell runs it.
 YEAR ?= 293997
 PLACE ?= 0
 DAY ?= 1
+FIRST ?= 293996
+LAST ?= 293998
 override YEAR := $(value YEAR)
 override PLACE := $(value PLACE)
 override DAY := $(value DAY)
-export YEAR PLACE DAY
+override FIRST := $(value FIRST)
+override LAST := $(value LAST)
+export YEAR PLACE DAY FIRST LAST
 
 library = target/staticlib/libxinghe.a
 sources := $(shell find crates -name '*.rt' -o -name '*.antt') crates.txt
@@ -43,6 +47,14 @@ head-rust: $(library)
 day: $(library)
 	@cc -Iinclude examples/day.c $(library) -o target/day
 	@target/day "$$YEAR" "$$PLACE" "$$DAY"
+
+# The volume of the years from FIRST to LAST as the volume writer writes it: bytes
+# and no text, for a file or a pipe. From another folder `make -sC`, since make -C
+# alone writes lines of its own among them.
+volume:
+	@$(need_rt)
+	@$(call quietly,rt check volume_writer,volume.log)
+	@printf '%s %s\n' "$$FIRST" "$$LAST" | target/bin/volume_writer
 
 $(library): $(sources)
 	@$(need_rt)

@@ -3,22 +3,28 @@
  * Every function takes any numbers whatever. It returns 0 where it answers and
  * writes its values to the arrays that the caller lends. Where it refuses it
  * returns one of the numbers below and writes zeros; xinghe_fill_year writes
- * nothing then. The lowest number that applies is returned.
+ * nothing then, and xinghe_write_volume nothing to its buffer. The lowest
+ * number that applies is returned.
  *
  * number returned     given exactly when
  *   0                 answered
  *   1                 the year is outside 1 to 1,011,600
- *   2                 the place is not below the year's month count
+ *   2                 the place is not below the year's month count, or the
+ *                     first year of a span is after the last
  *   3                 the day of the month is 0 or past the month's length, or
  *                     the day of the sixty is outside 1 to 60
  *   4                 a handed-in row differs in any field from the month of
  *                     the round that it names, or names none
  *   5                 a carry would end outside the round
- *   6                 the lent list is too short for the year's rows
+ *   6                 the lent list or buffer is too short: for the year's
+ *                     rows, or for the volume
  *   7                 the day number is above 369,481,019
  *   8                 the cut is not 24, 60 or 72, or the point not below it
  *   9                 the planet is outside 1 to 5
  *  10                 neither list of day names is 360 bytes
+ *  11                 the volume is empty or no whole number of blocks
+ *  12                 a block of the volume has a wrong check or is not what
+ *                     the writer gives for its place and the first block's year
  *
  * Years are written from 1. A place is a month's index in its year, from 0;
  * place 0 is the eleventh month. Days are counted from the origin, from 0; day 0
@@ -48,6 +54,7 @@ enum {
     XINGHE_ANSWERED = 0,
     XINGHE_YEAR = 1,
     XINGHE_PLACE = 2,
+    XINGHE_SPAN = 2,
     XINGHE_DAY_OF_MONTH = 3,
     XINGHE_DAY_OF_SIXTY = 3,
     XINGHE_ROW = 4,
@@ -56,11 +63,16 @@ enum {
     XINGHE_DAY = 7,
     XINGHE_CUT = 8,
     XINGHE_PLANET = 9,
-    XINGHE_NAMES = 10
+    XINGHE_NAMES = 10,
+    XINGHE_VOLUME = 11,
+    XINGHE_BLOCK = 12
 };
 
 /* How many numbers the row of a month has. */
 enum { XINGHE_ROW_NUMBERS = 13 };
+
+/* How many bytes the block of a year has in a volume. */
+enum { XINGHE_BLOCK_BYTES = 512 };
 
 /* A year's head. Refused: 1.
  * out[0]  months of the round before the year: those before the month whose
@@ -226,6 +238,50 @@ uint64_t xinghe_label(uint64_t day, const uint8_t *theirs, size_t theirs_length,
 /* A list for those who have none: the sixty stem and branch names in UTF-8,
  * from jiazi on. It is never refused and returns 0. */
 uint64_t xinghe_ganzhi_names(uint8_t out[360]);
+
+/* Almanac volumes. A volume is a run of consecutive years, one block of 512
+ * bytes for each; docs/volume.md takes one apart. Numbers are unsigned and
+ * little-endian.
+ *
+ * byte  length  what
+ *    0       4  year
+ *    4       1  month count, 12 or 13
+ *    5       1  place of the leap month, 0 where there is none
+ *    6       2  zeros
+ *    8     208  thirteen records of 16 bytes, by place; in a year of twelve
+ *               months the last is all zeros
+ *  216       4  leap months since the volume's first year, this one included
+ *  220       4  new moons at which an eclipse is marked, counted likewise
+ *  224       4  full moons at which one is marked, counted likewise
+ *  228     282  zeros
+ *  510       2  check: the sum of i + 1 times byte i, for i from 0 to 509,
+ *               modulo 65,521
+ *
+ * of a record
+ *    0       4  month of the round
+ *    4       4  first day
+ *    8       4  small remainder of the new moon, over 208,530
+ *   12       1  length, 29 or 30 days
+ *   13       1  month number, 1 to 12
+ *   14       1  1 for the leap month, else 0
+ *   15       1  zero */
+
+/* Writes the volume of the years from the first to the last to the front of a
+ * lent buffer of `length` bytes. The bytes past the volume stay as they were;
+ * refused, all of them do. Refused: 1 (either year), 2 (the first year is after
+ * the last), 6 (fewer than 512 bytes a year).
+ * written[0]  how many bytes the volume has: 512 for each year */
+uint64_t xinghe_write_volume(uint64_t first, uint64_t last, uint8_t *out,
+                             size_t length, uint64_t written[1]);
+
+/* The years of a volume of `length` bytes, which stays as it is. It is answered
+ * exactly where the volume is, byte for byte, what xinghe_write_volume writes
+ * for these years; any one altered byte is refused under 12. Refused: 11, 12
+ * (also where the first block's year is 0, or the run leaves the round).
+ * years[0]  first year
+ * years[1]  last year */
+uint64_t xinghe_read_volume(const uint8_t *volume, size_t length,
+                            uint64_t years[2]);
 
 #ifdef __cplusplus
 }

@@ -1,3 +1,4 @@
+pub mod Bits
 pub mod Round
 pub mod Steps
 pub mod LeapMonths

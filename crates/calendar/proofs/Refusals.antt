@@ -17,8 +17,8 @@ use Rattle.lunisolar.specs.Answers.{dayNumber, dayValues, zeroDay, dateNumber, 
 use Rattle.lunisolar.specs.declared.LunationAnswer.{LunationAnswer}
 use Rattle.lunisolar.specs.declared.dates.DayAnswer.{DayAnswer}
 use Rattle.lunisolar.specs.declared.dates.DateAnswer.{DateAnswer}
-use Rattle.units.specs.Xinghe.{xinghe, means, rule, roundDays}
-use Rattle.units.proofs.Years.{isYear, of-year}
+use Rattle.units.specs.Xinghe.{xinghe, means, rule, roundDays, isYear}
+use Rattle.units.proofs.Years.{of-year}
 use Rattle.calendar.specs.Heads.{headFor, yearHead}
 use Rattle.calendar.specs.Rows.{rowFor, monthRow}
 use Rattle.calendar.specs.Dates.{dayOfDate, dateOfDay}

@@ -3,20 +3,23 @@
 use mathlib.Core.Path.{_≡_, _∙_, refl, sym, ap}
 use Prim.Native.Nat.{ℕ, suc, _+_, _-_, _*_, _/_, _≤_, _<_}
 use native.Mathlib.Omega.{arith}
+use lib.Dec.{T}
 use Rattle.reckoning.specs.Rule.{leapPlace, yearOf}
 use Rattle.reckoning.specs.Means.{newMoon}
+use Rattle.reckoning.proofs.Searches.{between-low, between-high}
 use Rattle.reckoning.proofs.Moons.{length-by}
 use Rattle.reckoning.proofs.Days.{year-of-month}
 use Rattle.lunisolar.specs.Calendars.{Stands, yearAt, lunationAt}
 use Rattle.lunisolar.specs.Dates.{monthDays}
 use Rattle.lunisolar.specs.declared.YearAnswer.{YearAnswer}
 use Rattle.lunisolar.specs.declared.LunationAnswer.{LunationAnswer}
-use Rattle.lunisolar.proofs.Laws.{count-bound, year-found, lunation-at}
+use Rattle.lunisolar.proofs.Laws.{count-bound, year-at, year-found, lunation-at}
 use Rattle.lunisolar.proofs.Days.{next-day}
-use Rattle.units.specs.Xinghe.{D, P, xinghe, means, rule, roundYears, roundMonths, roundDays}
+use Rattle.units.specs.Xinghe.{D, P, xinghe, means, rule, roundYears, roundMonths, roundDays, isYear}
 use Rattle.units.proofs.Sound.{sound}
 use Rattle.moon.specs.NewMoons.{newMoonOf, lengthOf}
 use Rattle.calendar.specs.Heads.{headOf, headFor, yearHead}
+use Rattle.calendar.specs.Answers.{headValues}
 use Rattle.calendar.specs.declared.YearHead.{YearHead}
 use Rattle.calendar.specs.declared.HeadAnswer.{HeadAnswer}
 use Rattle.calendar.specs.Rows.{rowOf, rowFor, monthRow}
@@ -77,6 +80,15 @@ head-found n head e = go (yearAt xinghe n) refl e
         let h : head ≡ headOf y = cc in
         record { written = omega (arith, f .written); upto = rw w (f .upto); is-head = rw w h }
     go (YearAnswer.Refused x) q e = let bad : _≡_ {A = ℕ} 0 1 = cc in absurd (omega arith)
+
+-- and each year of the round has one
+pub year-headed : (n : ℕ) → T (isYear n) → HeadAnswer.Answered (headValues (yearHead n)) ≡ yearHead n
+unfolding headFor
+year-headed n t =
+    let e : n - 1 + 1 ≡ n = omega (arith, between-low 1 n (suc roundYears) t) in
+    let q : yearAt xinghe n ≡ YearAnswer.Past (n - 1) =
+    ap (yearAt xinghe) (sym e) ∙ year-at xinghe (n - 1) (omega (arith, e, between-high 1 n (suc roundYears) t)) in
+    rw q refl
 
 -- it has at most thirteen months, and the leap place of its year
 module _ (n : ℕ) (head : YearHead) (e : HeadAnswer.Answered head ≡ yearHead n) where

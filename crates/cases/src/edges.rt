@@ -3,6 +3,7 @@ use crate::lists;
 use crate::name_edges;
 use crate::planet_edges;
 use crate::questions;
+use crate::volume_edges;
 
 pub fn ask_edges() {
     ask_years_and_places();
@@ -16,6 +17,7 @@ pub fn ask_edges() {
     ask_cuts();
     planet_edges::ask_planets();
     name_edges::ask_names();
+    volume_edges::ask_volumes();
 }
 
 fn ask_years_and_places() {

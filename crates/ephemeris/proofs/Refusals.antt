@@ -8,7 +8,8 @@ use Rattle.reckoning.specs.Search.{pick}
 use Rattle.reckoning.proofs.Searches.{through}
 use Rattle.refusal.specs.declared.Refusal.{Refusal}
 use Rattle.sun.specs.Points.{isCut, pointOf}
-use Rattle.units.proofs.Years.{isYear, of-year}
+use Rattle.units.specs.Xinghe.{isYear}
+use Rattle.units.proofs.Years.{of-year}
 use Rattle.calendar.proofs.Refusals.{isPlace, of-place}
 use Rattle.ephemeris.specs.Jobs.{phasesFor, phasesAt, nodesFor, nodesAt, correctionsFor, correctionsAt, pointIn, pointFor, cutPoint}
 use Rattle.ephemeris.specs.Answers.{phasesNumber, phasesValues, zeroPhases, nodesNumber, nodesValues, zeroNodes, correctionsNumber, correctionsValues, zeroCorrections, pointNumber, pointValues, zeroPoint}

@@ -1,8 +1,10 @@
-// Lines of output for the programs cases and survey. A line is built by value and written by one system call, since a call for each number would take most of the run.
+// Lines of output for the programs cases and survey, and digests of what they are about. A line is built by value and written by one system call, since a call for each number would take most of the run.
 use refusal::Refusal;
 use walking::Sign;
 
-// The longest line has 192 bytes and its end. What does not fit is left out, so that building a line asks nothing of its caller.
+pub mod digest;
+
+// The longest line has 220 bytes and its end. What does not fit is left out, so that building a line asks nothing of its caller.
 pub struct Line {
     pub bytes: [u8; 256],
     pub len: usize,

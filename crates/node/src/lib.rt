@@ -9,6 +9,7 @@ ghost use Rattle.node.specs.Eclipses.{distanceOf, eclipseAt, eclipseOf, 
 ghost use Rattle.node.specs.Sides.{sideNumber};
 ghost use Rattle.node.specs.Nodes.{nodesOf};
 
+pub mod marks;
 pub mod passages;
 
 // Which side of the road the moon stands on (表裏).

@@ -6,8 +6,8 @@ use Prim.Native.Nat.{ℕ, suc, _+_, _-_, _*_, _%_, _<_}
 use native.Mathlib.Omega.{arith}
 use lib.Dec.{T, lit<}
 use Rattle.reckoning.proofs.Searches.{T-true}
-use Rattle.units.specs.Xinghe.{P, D}
-use Rattle.units.proofs.Years.{isYear, of-year}
+use Rattle.units.specs.Xinghe.{P, D, isYear}
+use Rattle.units.proofs.Years.{of-year}
 use Rattle.sun.specs.Solstices.{solsticeOf}
 use Rattle.planets.specs.declared.Apparition.{Apparition}
 use Rattle.planets.specs.declared.ConjunctionsAnswer.{ConjunctionsAnswer}

@@ -7,7 +7,8 @@ use lib.ListN.{length}
 use Rattle.reckoning.specs.Search.{pick}
 use Rattle.reckoning.proofs.Searches.{through}
 use Rattle.refusal.specs.declared.Refusal.{Refusal}
-use Rattle.units.proofs.Years.{isYear, of-year}
+use Rattle.units.specs.Xinghe.{isYear}
+use Rattle.units.proofs.Years.{of-year}
 use Rattle.planets.specs.Planets.{isPlanet, planetOf}
 use Rattle.planets.specs.Answers.{conjunctionsOf, conjunctionsNumber, conjunctionsValues, zeroConjunctions, stagesNumber, stagesCount}
 use Rattle.planets.specs.Stages.{stagesOf, inRoom, noStages}

@@ -1,4 +1,5 @@
 pub mod Searches
+pub mod Counts
 pub mod Climbs
 pub mod Rates
 pub mod Laws

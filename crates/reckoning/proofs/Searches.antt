@@ -62,9 +62,16 @@ pub both-right : (a b : Bool) → T (a && b) → T b
 both-right true b t = t
 both-right false b t = absurd t
 
-both-T : (a b : Bool) → T a → T b → T (a && b)
+pub both-T : (a b : Bool) → T a → T b → T (a && b)
 both-T true b s t = t
 both-T false b s t = s
+
+-- two tests that pass together are one
+pub together : (a b : Bool) → (T a → T b) → (T b → T a) → a ≡ b
+together true true f g = refl
+together true false f g = absurd (f tt)
+together false true f g = absurd (g tt)
+together false false f g = refl
 
 module _ (a x b : ℕ) where
   pub between-T : a ≤ x → x < b → T (between a x b)
@@ -151,6 +158,10 @@ all-at f (suc n) t k h =
     (λ (e : n ≤ k). let q : n ≡ k = omega arith in moved f q (both-left (f n) (all f n) t))
     (λ (e : k < n). all-at f n (both-right (f n) (all f n) t) k e)
     (le-or-lt n k)
+
+pub all-of : (f : ℕ → Bool) (n : ℕ) → ((k : ℕ) → k < n → T (f k)) → T (all f n)
+all-of f zero each = tt
+all-of f (suc n) each = both-T (f n) (all f n) (each n (omega arith)) (all-of f n (λ k h. each k (omega arith)))
 
 -- a table that is the list of f's values has f's value at each entry
 pub list-at : {A : Type 0} (f : ℕ → A) (d : A) (n p k : ℕ) → k < n → getD (listFrom f p n) k d ≡ f (p + k)

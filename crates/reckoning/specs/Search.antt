@@ -1,8 +1,8 @@
 -- Choices, bounded searches and repetition, as the other definitions use them. Each computes.
 -- Assumes nothing.
-use mathlib.Core.Bool.{Bool, true, false, _&&_}
+use mathlib.Core.Bool.{Bool, true, false, _&&_, cond}
 use mathlib.Core.List.{List, [], _∷_}
-use Prim.Native.Nat.{ℕ, zero, suc}
+use Prim.Native.Nat.{ℕ, zero, suc, _+_}
 use lib.Dec.{leb, ltb}
 
 -- the first if the test passes, else the second
@@ -23,6 +23,11 @@ any f (suc n) = pick (f n) true (any f n)
 abbrev pub all : (ℕ → Bool) → ℕ → Bool
 all f zero = true
 all f (suc n) = f n && all f n
+
+-- at how many of the first n numbers the test passes
+unfoldable pub count : (ℕ → Bool) → ℕ → ℕ
+count f zero = 0
+count f (suc n) = count f n + cond (f n) 1 0
 
 -- the first of the n numbers from p on at which the test passes; 0 if there is none
 unfoldable pub firstFrom : (ℕ → Bool) → ℕ → ℕ → ℕ

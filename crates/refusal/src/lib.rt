@@ -25,6 +25,14 @@ pub enum Refusal {
     DayOfSixty,
     // neither of two lent lists of day names is exactly 360 bytes
     Names,
+    // a span of years in the wrong order
+    Span,
+    // a lent buffer shorter than the volume
+    Room,
+    // bytes that are no whole number of blocks, or none
+    Volume,
+    // a block with a wrong check, or not the writer's for its place and the first block's year
+    Block,
 }
 
 impl Refusal {
@@ -43,6 +51,10 @@ impl Refusal {
             Refusal::Planet => 9,
             Refusal::DayOfSixty => 3,
             Refusal::Names => 10,
+            Refusal::Span => 2,
+            Refusal::Room => 6,
+            Refusal::Volume => 11,
+            Refusal::Block => 12,
         }
     }
 }

@@ -1,10 +1,10 @@
 // Answers fed to a digest: their values in the order in which the second program feeds them.
-use crate::digest::Digest;
 use anomaly::Anomaly;
 use anomaly::Corrected;
 use anomaly::Corrections;
 use calendar::MonthRow;
 use calendar::rows::FIELDS;
+use lines::digest::Digest;
 use moon::phases::Phase;
 use moon::phases::Phases;
 use node::Distance;
@@ -45,14 +45,7 @@ pub fn fed_row(digest: Digest, row: MonthRow) -> Digest {
 
 // The stem and branch of a day, by the lent names.
 pub fn fed_label(digest: Digest, day: u64, ganzhi: &[u8]) -> Digest {
-    let name = names::label(lunisolar::sixty::sexagenary(day), &ganzhi[0..0], ganzhi);
-    let mut fed = digest;
-    let mut i = 0;
-    while i < name.len() {
-        fed = fed.feed(name[i] as u64);
-        i += 1;
-    }
-    fed
+    digest.feed_bytes(names::label(lunisolar::sixty::sexagenary(day), &ganzhi[0..0], ganzhi))
 }
 
 fn fed_phase(digest: Digest, phase: Phase) -> Digest {

@@ -1,8 +1,8 @@
 // The survey: counts and a digest over every number that the calendar answers, for each era and for the round, in the lines that the
 // independent second program writes.
 mod counts;
-mod digest;
 mod fields;
+mod volume;
 mod years;
 
 use lines::Line;

@@ -1,8 +1,9 @@
 // Every question of the calendar, asked of every month and year of an era.
 use crate::counts::Counts;
-use crate::digest::Digest;
 use crate::fields;
+use crate::volume;
 use lines::Line;
+use lines::digest::Digest;
 ghost use Prim.Native.Nat.{_<_};
 
 // The years of an era (紀).
@@ -13,6 +14,7 @@ pub struct Survey {
     pub counts: Counts,
     pub digest: Digest,
     pub planets: Digest,
+    pub volume: Digest,
 }
 
 impl Survey {
@@ -20,10 +22,12 @@ impl Survey {
         let counts = Counts::new();
         let digest = Digest::new();
         let planets = Digest::new();
+        let volume = Digest::new();
         Self {
             counts,
             digest,
             planets,
+            volume,
         }
     }
 
@@ -40,10 +44,12 @@ impl Survey {
         let counted = self.counts;
         let counts = counted.count_month(row, nodes);
         let planets = self.planets;
+        let volume = self.volume;
         Self {
             counts,
             digest,
             planets,
+            volume,
         }
     }
 
@@ -64,10 +70,12 @@ impl Survey {
         let counted = self.counts;
         let counts = counted.count_year(head.leap);
         let planets = feed_planets(self.planets, year);
+        let volume = volume::feed_block(self.volume, year);
         Self {
             counts,
             digest,
             planets,
+            volume,
         }.months(year, head.months, ganzhi)
     }
 
@@ -82,10 +90,14 @@ impl Survey {
         let round_planets = self.planets;
         let era_planets = era.planets;
         let planets = round_planets.feed_digest(era_planets);
+        let round_volume = self.volume;
+        let era_volume = era.volume;
+        let volume = round_volume.feed_digest(era_volume);
         Self {
             counts,
             digest,
             planets,
+            volume,
         }
     }
 
@@ -93,12 +105,15 @@ impl Survey {
         let counts = self.counts;
         let digest = self.digest;
         let planets = self.planets;
+        let volume = self.volume;
         counts
             .on_line(title)
             .text(b" digest")
             .number(digest.value())
             .text(b" planets")
             .number(planets.value())
+            .text(b" volume")
+            .number(volume.value())
             .write();
     }
 }

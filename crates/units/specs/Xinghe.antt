@@ -1,6 +1,8 @@
 -- The Xinghe calendar's numbers (01, "Numbers that everything stands on"), named once.
 -- Assumes nothing.
-use Prim.Native.Nat.{ℕ}
+use mathlib.Core.Bool.{Bool}
+use Prim.Native.Nat.{ℕ, suc}
+use Rattle.reckoning.specs.Search.{between}
 use Rattle.reckoning.specs.Rule.{Rule}
 use Rattle.reckoning.specs.Means.{Means}
 use Rattle.lunisolar.specs.Calendars.{meansOf, ruleOf}
@@ -56,6 +58,10 @@ roundMonths = 12511800
 
 abbrev pub roundDays : ℕ
 roundDays = 369481020
+
+-- the year is one of the round's
+abbrev pub isYear : ℕ → Bool
+isYear n = between 1 n (suc roundYears)
 
 -- a month has 30 days from this small remainder on
 abbrev pub longFrom : ℕ

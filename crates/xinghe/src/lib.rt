@@ -22,6 +22,8 @@ ghost use Rattle.calendar.specs.Carries.{carriedFields};
 ghost use Rattle.walk.specs.Walked.{walkAnswerFields, walkNumber, walkValues};
 ghost use Rattle.xinghe.specs.Walks.{totalsFields};
 ghost use Rattle.xinghe.specs.Years.{fillAnswerIn, filledFields};
+ghost use Rattle.volumes.specs.Writer.{writeAnswer, afterWrite, writeNumber, written};
+ghost use Rattle.volumes.specs.Reader.{readAnswer, readNumber, readYears};
 
 pub mod fields;
 pub mod walks;
@@ -175,7 +177,7 @@ pub extern "C" fn xinghe_fill_year(year: u64, out: &mut [u64]) -> u64
     let head = calendar::heads::year_head(year);
     let answer = years::answer_in(head, out.len());
     let n = answer.count() as usize;
-    let mut elements = years::first_elements(head);
+    let mut elements = year_list::first_elements(head);
     let mut i = 0;
     while i < n {
         years::put(out, FIELDS * i, years::fields_at(year, head, i, elements));
@@ -183,5 +185,31 @@ pub extern "C" fn xinghe_fill_year(year: u64, out: &mut [u64]) -> u64
         elements = elements.next();
         i += 1;
     }
+    answer.number()
+}
+
+// The volume of the years from the first to the last is stored at the front of the lent buffer, and the rest of it stays. Refused, nothing is
+// written there.
+#[no_mangle]
+pub extern "C" fn xinghe_write_volume(
+    first: u64,
+    last: u64,
+    out: &mut [u8],
+    count: &mut [u64; 1],
+) -> u64
+    ensures { λ r. ⌜ (r ≡ writeNumber (writeAnswer first last (length (now (out .entry))))) × (now (out .exit) ≡ afterWrite first last (now (out .entry))) × (now (count .exit) ≡ written (writeAnswer first last (length (now (out .entry)))) ∷ []) ⌝ }
+{
+    let answer = volumes::writer::write(first, last, out);
+    *count = [answer.count()];
+    answer.number()
+}
+
+// The first and the last year of a volume.
+#[no_mangle]
+pub extern "C" fn xinghe_read_volume(volume: &[u8], years: &mut [u64; 2]) -> u64
+    ensures { λ r. ⌜ (r ≡ readNumber (readAnswer (now (volume .entry)))) × (now (years .exit) ≡ readYears (readAnswer (now (volume .entry)))) ⌝ }
+{
+    let answer = volumes::reader::read(volume);
+    *years = answer.years();
     answer.number()
 }

@@ -9,7 +9,6 @@ ghost use Prim.Native.Nat.{_+_, _≤_, _<_};
 ghost use lib.ListN.{length};
 ghost use lib.Seq.{paste};
 ghost use Rattle.calendar.specs.Heads.{yearHead};
-ghost use Rattle.units.specs.Xinghe.{roundMonths};
 ghost use Rattle.calendar.specs.Elements.{elementsOf};
 ghost use Rattle.calendar.specs.Rows.{fieldCount, rowFields};
 ghost use Rattle.calendar.specs.Answers.{headValues};
@@ -23,20 +22,12 @@ pub fn answer_in(head: HeadAnswer, have: usize) -> FillAnswer
     year_list::answer_for(head, have / FIELDS)
 }
 
-// The elements of the first new moon of the year with that head.
-pub fn first_elements(head: HeadAnswer) -> Elements
-    requires { ⌜ headValues head .before < roundMonths ⌝ }
-    ensures { λ r. ⌜ r ≡ elementsOf (headValues head .before) ⌝ }
-{
-    calendar::elements::elements_of(head.values().before)
-}
-
 // The numbers of the row at a place of the year with that head, whose new moon's elements are at hand.
 pub fn fields_at(year: u64, head: HeadAnswer, place: usize, elements: Elements) -> RowFields
     requires { ⌜ (head ≡ yearHead year) × (place < headValues head .months) × (elements ≡ elementsOf (headValues head .before + place)) ⌝ }
     ensures { λ r. ⌜ r ≡ rowFields (rowAt year place) ⌝ }
 {
-    calendar::rows::row_with(year, head.values(), place as u64, elements).fields()
+    year_list::row_with(year, head, place, elements).fields()
 }
 
 // Stores a row's numbers from that place of the list on.

@@ -3,7 +3,7 @@
 use mathlib.Core.Bool.{Bool, true, false}
 use mathlib.Core.List.{List, [], _∷_, _++_, append-assoc}
 use mathlib.Core.Path.{_≡_, refl, sym, _∙_, ap}
-use Prim.Native.Nat.{ℕ, zero, suc, _+_, _≤_, _<_}
+use Prim.Native.Nat.{ℕ, zero, suc, _+_, _-_, _≤_, _<_}
 use native.Mathlib.Nat.{add-zero, zero-add}
 use native.Mathlib.Numerals.{add-one}
 use native.Mathlib.Omega.{arith}
@@ -13,10 +13,14 @@ use lib.Seq.{drop-cons, set-at}
 use borrow.Author.Tests.{leb-true}
 use Rattle.reckoning.specs.Search.{pick}
 use Rattle.refusal.specs.declared.Refusal.{Refusal}
+use Rattle.lunisolar.proofs.Rounds.{in-round}
+use Rattle.units.specs.Xinghe.{xinghe, roundMonths}
+use Rattle.units.proofs.Sound.{sound}
 use Rattle.calendar.specs.Heads.{yearHead}
 use Rattle.calendar.specs.Answers.{headValues}
 use Rattle.calendar.specs.declared.HeadAnswer.{HeadAnswer}
 use Rattle.calendar.specs.declared.MonthRow.{MonthRow}
+use Rattle.calendar.proofs.Round.{head-stands}
 use Rattle.year_list.specs.Filled.{answerFor, rowAt, rowsFrom, written, toWrite}
 use Rattle.year_list.specs.declared.FillAnswer.{FillAnswer}
 
@@ -66,3 +70,8 @@ one-more n k rows r h e =
     ∙ set-at (rowsFrom n 0 k) _ (drop (suc k) rows) r k (rows-length n 0 k)
     ∙ sym (append-assoc (rowsFrom n 0 k) (r ∷ []) (drop (suc k) rows))
     ∙ rw (e, add-one k, rows-more n 0 k, zero-add k)
+
+-- each place of a year is that of a month of the round
+pub month-in-round : (n : ℕ) (head : HeadAnswer) (p : ℕ) → head ≡ yearHead n → p < headValues head .months → headValues head .before + p < roundMonths
+month-in-round n head p e h =
+    in-round xinghe sound (n - 1) p _ (head-stands n (headValues head) (has-head head p h ∙ e) p h)

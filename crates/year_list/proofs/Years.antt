@@ -14,7 +14,7 @@ use Rattle.reckoning.specs.Rule.{monthCount}
 use Rattle.reckoning.proofs.Searches.{through}
 use Rattle.refusal.specs.declared.Refusal.{Refusal}
 use Rattle.lunisolar.proofs.Laws.{year-at, lunation-at}
-use Rattle.units.specs.Xinghe.{xinghe, rule, roundYears}
+use Rattle.units.specs.Xinghe.{xinghe, rule, roundYears, isYear}
 use Rattle.calendar.specs.Heads.{headOf, headFor, yearHead}
 use Rattle.calendar.specs.Rows.{rowOf, rowFor}
 use Rattle.calendar.specs.Answers.{zeroRow}
@@ -22,7 +22,7 @@ use Rattle.calendar.specs.declared.YearHead.{YearHead}
 use Rattle.calendar.specs.declared.HeadAnswer.{HeadAnswer}
 use Rattle.calendar.specs.declared.MonthRow.{MonthRow}
 use Rattle.calendar.proofs.Round.{head-months}
-use Rattle.units.proofs.Years.{isYear, of-year}
+use Rattle.units.proofs.Years.{of-year}
 use Rattle.year_list.specs.Filled.{answerFor, fillAnswer, rowAt, rowsFrom, toWrite, filled, yearRows, fillNumber}
 use Rattle.year_list.specs.declared.FillAnswer.{FillAnswer}
 use Rattle.year_list.proofs.Fronts.{rows-length}

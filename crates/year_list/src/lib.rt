@@ -1,10 +1,13 @@
 // A whole year's rows: in a lent list, or by value. The year's head is worked out once and serves all its rows.
 use calendar::HeadAnswer;
 use calendar::MonthRow;
+use calendar::elements::Elements;
 use refusal::Refusal;
 ghost use mathlib.Core.Path.{_≡_};
-ghost use Prim.Native.Nat.{_≤_, _<_};
+ghost use Prim.Native.Nat.{_+_, _≤_, _<_};
 ghost use lib.ListN.{length};
+ghost use Rattle.units.specs.Xinghe.{roundMonths};
+ghost use Rattle.calendar.specs.Elements.{elementsOf};
 ghost use Rattle.calendar.specs.Heads.{yearHead};
 ghost use Rattle.calendar.specs.Answers.{headValues};
 ghost use Rattle.year_list.specs.Filled.{answerFor, written, fillNumber, rowAt, fillAnswer, filled, filledFront, yearRows};
@@ -71,6 +74,23 @@ pub fn row_at(year: u64, head: HeadAnswer, place: usize) -> MonthRow
     ensures { λ r. ⌜ r ≡ rowAt year place ⌝ }
 {
     calendar::rows::row_under(year, head.values(), place as u64)
+}
+
+// The elements of the first new moon of the year with that head.
+pub fn first_elements(head: HeadAnswer) -> Elements
+    requires { ⌜ headValues head .before < roundMonths ⌝ }
+    ensures { λ r. ⌜ r ≡ elementsOf (headValues head .before) ⌝ }
+{
+    calendar::elements::elements_of(head.values().before)
+}
+
+// The row at a place of the year with that head, whose new moon's elements are at hand: so the elements go on from place to place by additions,
+// which is shorter than from the origin.
+pub fn row_with(year: u64, head: HeadAnswer, place: usize, elements: Elements) -> MonthRow
+    requires { ⌜ (head ≡ yearHead year) × (place < headValues head .months) × (elements ≡ elementsOf (headValues head .before + place)) ⌝ }
+    ensures { λ r. ⌜ r ≡ rowAt year place ⌝ }
+{
+    calendar::rows::row_with(year, head.values(), place as u64, elements)
 }
 
 // The rows of the year with that head are stored by place at the front of the lent list.

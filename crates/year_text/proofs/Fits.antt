@@ -13,7 +13,7 @@ use Rattle.reckoning.specs.Search.{pick}
 use Rattle.reckoning.proofs.Searches.{le-or-lt, below, beyond}
 use Rattle.refusal.specs.Numbers.{numberOf}
 use Rattle.lunisolar.specs.Calendars.{yearAt}
-use Rattle.units.specs.Xinghe.{roundYears}
+use Rattle.units.specs.Xinghe.{roundYears, isYear}
 use Rattle.calendar.specs.Heads.{headFor, yearHead}
 use Rattle.calendar.specs.declared.HeadAnswer.{HeadAnswer}
 use Rattle.calendar.specs.declared.MonthRow.{MonthRow}
@@ -39,15 +39,18 @@ text-fits n = go (yearHead n) refl
     go (HeadAnswer.Refused x) e = omega (arith, length-append refusedWord (field (numberOf x) 10), field-length (numberOf x) 10)
 
 -- WHAT IS NO YEAR has the text of year 0, which is none
-pub no-year : (n : ℕ) → roundYears < n → textOf n ≡ textOf 0
+no-year : (n : ℕ) → isYear n ≡ false → textOf n ≡ textOf 0
 unfolding yearAt headFor textFor
-no-year n h = rw (beyond 1 n (suc roundYears) (omega arith), below 1 0 (suc roundYears) (omega arith))
+no-year n e = rw (e, below 1 0 (suc roundYears) (omega arith))
+
+past-year : (n : ℕ) → roundYears < n → isYear n ≡ false
+past-year n h = beyond 1 n (suc roundYears) (omega arith)
 
 pub capped-text : (n : ℕ) → textOf (min n pastRound) ≡ textOf n
 capped-text n =
     ⊎-elim
     (λ (h : n ≤ roundYears). let e : min n pastRound ≡ n = omega arith in rw e)
-    (λ (h : roundYears < n). let e : min n pastRound ≡ pastRound = omega arith in rw e (no-year pastRound (omega arith) ∙ sym (no-year n h)))
+    (λ (h : roundYears < n). let e : min n pastRound ≡ pastRound = omega arith in rw e (no-year pastRound (past-year pastRound (omega arith)) ∙ sym (no-year n (past-year n h))))
     (le-or-lt n roundYears)
 
 -- digits with more behind them mean no less
@@ -70,25 +73,26 @@ not-all (b ∷ bs) cs e = go (isDigit b) (not-all bs cs) e
     go true after h = after h
     go false after h = refl
 
--- SETTLED: once a line can't become a year of the round, its text is the same whatever follows
-pub settled-text : (bs cs : List ℕ) → isSettled (readOf bs) ≡ true → textOf (yearOfLine (bs ++ cs)) ≡ textOf (readOf bs .year)
+-- SETTLED: once a line can't become a year of the round, it asks for none, whatever follows
+pub settled-none : (bs cs : List ℕ) → isSettled (readOf bs) ≡ true → isYear (yearOfLine (bs ++ cs)) ≡ false
 unfolding readOf
-settled-text bs cs e = go (allDigits bs) refl e
+settled-none bs cs e = go (allDigits bs) refl e
   where
-    longer : (t : Bool) → roundYears < value bs → textOf (pick t (value (bs ++ cs)) 0) ≡ textOf 0
-    longer true h = no-year (value (bs ++ cs)) (omega (arith, value-past 0 bs cs))
-    longer false h = refl
+    longer : (t : Bool) → roundYears < value bs → isYear (pick t (value (bs ++ cs)) 0) ≡ false
+    longer true h = past-year (value (bs ++ cs)) (omega (arith, value-past 0 bs cs))
+    longer false h = below 1 0 (suc roundYears) (omega arith)
 
-    go : (t : Bool) → allDigits bs ≡ t → isSettled (pick t (record { valid = true; year = min (value bs) pastRound }) notDigits) ≡ true →
-        textOf (yearOfLine (bs ++ cs)) ≡ textOf (pick t (record { valid = true; year = min (value bs) pastRound }) notDigits .year)
-    go true q h =
-        let past : roundYears < min (value bs) pastRound = ltb-true roundYears (min (value bs) pastRound) h in
-        longer (allDigits (bs ++ cs)) (omega (arith, past)) ∙ sym (no-year (min (value bs) pastRound) past)
-    go false q h = rw (not-all bs cs q)
+    go : (t : Bool) → allDigits bs ≡ t → isSettled (pick t (record { valid = true; year = min (value bs) pastRound }) notDigits) ≡ true → isYear (yearOfLine (bs ++ cs)) ≡ false
+    go true q h = longer (allDigits (bs ++ cs)) (omega (arith, ltb-true roundYears (min (value bs) pastRound) h))
+    go false q h = rw (not-all bs cs q) (below 1 0 (suc roundYears) (omega arith))
 
 -- a line that has ended
 ended : (bs : List ℕ) → textOf (readOf bs .year) ≡ textOf (yearOfLine (bs ++ []))
 ended bs = rw (append-nil bs, line-year bs) (capped-text (yearOfLine bs))
+
+-- so its text is the same
+settled-text : (bs cs : List ℕ) → isSettled (readOf bs) ≡ true → textOf (yearOfLine (bs ++ cs)) ≡ textOf (readOf bs .year)
+settled-text bs cs e = no-year (yearOfLine (bs ++ cs)) (settled-none bs cs e) ∙ sym (ended bs ∙ no-year (yearOfLine (bs ++ [])) (settled-none bs [] e))
 
 -- AS IT IS READ: the year that is asked byte by byte has the text of the year that the first line asks for
 read-line : (bs cs : List ℕ) → textOf (asked (readOf bs) cs) ≡ textOf (yearOfLine (bs ++ lineOf cs))

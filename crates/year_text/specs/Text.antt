@@ -6,6 +6,7 @@ use mathlib.Core.List.{List, [], _∷_, _++_}
 use Prim.Native.Nat.{ℕ}
 use Rattle.reckoning.specs.Search.{pick}
 use Rattle.refusal.specs.Numbers.{numberOf}
+use Rattle.refusal.specs.declared.Refusal.{Refusal}
 use Rattle.lunisolar.specs.Sixty.{sexagenaryOf}
 use Rattle.calendar.specs.Heads.{yearHead}
 use Rattle.calendar.specs.declared.YearHead.{YearHead}
@@ -56,10 +57,14 @@ unfoldable pub rowLines : List MonthRow → List ℕ
 rowLines [] = []
 rowLines (row ∷ rows) = monthLine row ++ rowLines rows
 
+-- a refusal: the word and the number, alone
+abbrev pub refusalLine : Refusal → List ℕ
+refusalLine e = refusedWord ++ field (numberOf e) 10
+
 -- a year's head line and the lines of its rows, by place
 unfoldable pub textFor : ℕ → HeadAnswer → List ℕ
 textFor n (HeadAnswer.Answered head) = headLine n head ++ rowLines (rowsFrom n 0 (head .months))
-textFor n (HeadAnswer.Refused e) = refusedWord ++ field (numberOf e) 10
+textFor n (HeadAnswer.Refused e) = refusalLine e
 
 abbrev pub textOf : ℕ → List ℕ
 textOf n = textFor n (yearHead n)

@@ -2,14 +2,15 @@
 use calendar::HeadAnswer;
 use calendar::MonthRow;
 use calendar::YearHead;
+use refusal::Refusal;
 ghost use mathlib.Core.Path.{_≡_};
 ghost use mathlib.Core.List.{[], _∷_};
 ghost use Prim.Native.Nat.{_+_, _*_, _≤_, _<_};
 ghost use lib.ListN.{length, take, set};
 ghost use Rattle.year_text.specs.Decimal.{decimal};
 ghost use Rattle.year_text.specs.Lines.{lineOf, yearOfLine};
-ghost use Rattle.year_text.specs.Written.{Wrote, afterText};
-ghost use Rattle.year_text.specs.Text.{field, named, mark, headLine, placeText, moonText, monthLine, rowLines, textOf};
+ghost use Rattle.writing.specs.Written.{Wrote, afterText};
+ghost use Rattle.year_text.specs.Text.{field, named, mark, headLine, placeText, moonText, monthLine, rowLines, refusalLine, textOf};
 
 fn store(out: &mut [u8], at: usize, byte: u8)
     requires { ⌜ at < length (now out) ⌝ }
@@ -40,7 +41,7 @@ fn put_decimal(out: &mut [u8], at: usize, n: u64) -> usize
 }
 
 // A number, and a byte after it.
-fn put_field(out: &mut [u8], at: usize, n: u64, end: u8) -> usize
+pub fn put_field(out: &mut [u8], at: usize, n: u64, end: u8) -> usize
     requires { ⌜ at + 21 ≤ length (now out) ⌝ }
     ensures { λ r. ⌜ Wrote (now (out .entry)) (now (out .exit)) at r (field n end) ⌝ }
 {
@@ -131,6 +132,15 @@ fn put_rows(out: &mut [u8], at: usize, rows: [MonthRow; 13], count: usize) -> us
     end
 }
 
+// A refusal's line.
+pub fn put_refusal(out: &mut [u8], at: usize, refusal: Refusal) -> usize
+    requires { ⌜ at + 29 ≤ length (now out) ⌝ }
+    ensures { λ r. ⌜ Wrote (now (out .entry)) (now (out .exit)) at r (refusalLine refusal) ⌝ }
+{
+    let end = put_word(out, at, b"refused ");
+    put_field(out, end, refusal.number(), 10)
+}
+
 // A year in the printer's text, or its refusal, at the front of the buffer; the answer is its length.
 pub fn render(year: u64, out: &mut [u8; 2048]) -> usize
     ensures { λ r. ⌜ (r ≡ length (textOf year)) × (now (out .exit) ≡ afterText (textOf year) (now (out .entry))) ⌝ }
@@ -143,10 +153,7 @@ pub fn render(year: u64, out: &mut [u8; 2048]) -> usize
             let end = put_head(out, 0, year, head);
             put_rows(out, end, rows, head.months as usize)
         }
-        HeadAnswer::Refused(e) => {
-            let end = put_word(out, 0, b"refused ");
-            put_field(out, end, e.number(), 10)
-        }
+        HeadAnswer::Refused(e) => put_refusal(out, 0, e),
     }
 }
 

@@ -19,7 +19,16 @@ pub struct Inputs {
     pub planets: Vec<u64>,
     /// Days of the sixty, and how long their list is.
     pub labels: Vec<(u64, usize)>,
+    /// The first years of volumes, and the volumes.
+    pub first_years: Vec<u64>,
+    pub volumes: Vec<Volume>,
 }
+
+/// The years of a volume.
+pub const VOLUME_YEARS: u64 = 20;
+pub type Volume = [u8; VOLUME_YEARS as usize * fast::BLOCK];
+/// Few enough that the processor's cache holds the volumes that are read.
+pub const VOLUMES: usize = 1 << 9;
 
 struct Random {
     state: u64,
@@ -80,12 +89,24 @@ impl Random {
         (row, to as i64 - row[0] as i64)
     }
 
+    /// Of a volume that ends within the round.
+    fn first_year(&mut self) -> u64 {
+        1 + self.below(fast::ROUND_YEARS - VOLUME_YEARS + 1)
+    }
+
     /// Steps of up to a million months either way; a few lead outside.
     fn walk(&mut self) -> (Row, Vec<i64>) {
         let counts = (0..STEPS).map(|_| self.below(2_000_001) as i64 - 1_000_000);
         let counts = counts.collect();
         (self.row(), counts)
     }
+}
+
+fn volume(&first: &u64) -> Volume {
+    let (mut volume, mut count) = ([0; _], [0]);
+    let number = fast::write_volume(first, first + VOLUME_YEARS - 1, &mut volume, &mut count);
+    assert_eq!(number, 0);
+    volume
 }
 
 fn some<T>(count: usize, make: impl FnMut() -> T) -> Vec<T> {
@@ -95,6 +116,8 @@ fn some<T>(count: usize, make: impl FnMut() -> T) -> Vec<T> {
 impl Inputs {
     pub fn new() -> Self {
         let mut random = Random { state: 1 };
+        let mut volumes_random = Random { state: 2 };
+        let first_years = some(VOLUMES, || volumes_random.first_year());
         Self {
             months: some(COUNT, || random.month()),
             dates: some(COUNT, || random.date()),
@@ -106,6 +129,8 @@ impl Inputs {
             conjunctions: some(COUNT, || (random.year(), random.planet())),
             planets: some(COUNT, || random.planet()),
             labels: some(COUNT, || random.label()),
+            volumes: first_years.iter().map(volume).collect(),
+            first_years,
         }
     }
 }

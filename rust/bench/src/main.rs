@@ -11,7 +11,7 @@ mod measure;
 mod survey;
 
 use bench::fast::{self, Division, MonthsBefore, Row, Table, ROW};
-use inputs::Inputs;
+use inputs::{Inputs, Volume, VOLUME_YEARS};
 use measure::{measure, Line};
 
 /// A walk's last row and its totals.
@@ -192,6 +192,31 @@ fn names(inputs: &Inputs) -> [Line; 2] {
     ]
 }
 
+fn volumes(inputs: &Inputs) -> [Line; 2] {
+    let blank = ([0; size_of::<Volume>()], [0]);
+    [
+        measure(
+            "a volume of 20 years, written",
+            &inputs.first_years,
+            blank,
+            |&first, (out, count)| {
+                let last = first + VOLUME_YEARS - 1;
+                // SAFETY: pointer and length are those of an array.
+                unsafe { raw::xinghe_write_volume(first, last, out.as_mut_ptr(), out.len(), count) }
+            },
+            |&first, (out, count)| fast::write_volume(first, first + VOLUME_YEARS - 1, out, count),
+        ),
+        measure(
+            "a volume of 20 years, read",
+            &inputs.volumes,
+            [0; 2],
+            // SAFETY: as above; the volume is only read.
+            |volume, out| unsafe { raw::xinghe_read_volume(volume.as_ptr(), volume.len(), out) },
+            |volume, out| fast::read_volume(volume, out),
+        ),
+    ]
+}
+
 fn main() {
     let inputs = Inputs::new();
     println!("| job | library, ns per call | Rust, ns per call | library / Rust |");
@@ -206,6 +231,7 @@ fn main() {
     moons(&inputs).iter().for_each(Line::print);
     planets(&inputs).iter().for_each(Line::print);
     names(&inputs).iter().for_each(Line::print);
+    volumes(&inputs).iter().for_each(Line::print);
     let survey = survey::measure();
     survey.print();
     println!();

@@ -17,11 +17,20 @@ pub enum Refusal {
     NoSuchDay = 3,
     ForgedRow = 4,
     CarryOutside = 5,
+    /// Or a lent buffer.
     ListTooShort = 6,
     DayNumber = 7,
     Cut = 8,
     Planet = 9,
     NoNames = 10,
+    /// Empty, or no whole number of blocks.
+    Volume = 11,
+    Block = 12,
+}
+
+impl Refusal {
+    /// A span in the wrong order has the place's number.
+    pub const ORDER: Self = Self::Place;
 }
 
 pub fn year(number: u64) -> Result<Year, Refusal> {

@@ -10,6 +10,7 @@ use crate::name_cases;
 use crate::numbers::CHAPTER_YEARS;
 use crate::planet_cases;
 use crate::sixty;
+use crate::volume_cases;
 use crate::walker::Month;
 
 /// Years at the seams of the round, years in which the days of the middle terms
@@ -76,6 +77,7 @@ fn edge_lines() -> Vec<String> {
     ]);
     lines.extend(planet_cases::lines());
     lines.extend(name_cases::lines());
+    lines.extend(volume_cases::lines());
     lines
 }
 
@@ -269,9 +271,14 @@ fn of_month(question: &str, year: u64, place: u64, answer: impl Fn(&Month) -> St
 }
 
 pub fn line(question: String, answer: Result<String, Refusal>) -> String {
+    numbered_line(question, answer.map_err(|refusal| refusal as u64))
+}
+
+/// Where the refusal comes as its number.
+pub fn numbered_line(question: String, answer: Result<String, u64>) -> String {
     match answer {
         Ok(values) => format!("{question} {values}\n"),
-        Err(refusal) => format!("{question} refused {}\n", refusal as u8),
+        Err(number) => format!("{question} refused {number}\n"),
     }
 }
 

@@ -40,13 +40,21 @@ impl Checkpoints {
         self.states[count - 1].clone()
     }
 
-    /// The year, where it is one of the round.
-    pub fn year(&self, number: u64) -> Option<Year> {
+    /// The walk standing at the start of a year, where it is one of the round.
+    pub fn walker(&self, number: u64) -> Option<Walker> {
         if !(1..=ROUND_YEARS).contains(&number) {
             return None;
         }
-        self.nearest(|state| state.year() <= number)
-            .find(|year| year.number == number)
+        let mut walker = self.nearest(|state| state.year() <= number);
+        while walker.year() < number {
+            walker.next();
+        }
+        Some(walker)
+    }
+
+    /// The year, where it is one of the round.
+    pub fn year(&self, number: u64) -> Option<Year> {
+        self.walker(number)?.next()
     }
 
     /// The month of the round with the given number from 0.

@@ -1,5 +1,6 @@
 //! Two running sums over every number of the walk.
 
+use crate::blocks::Block;
 use crate::fields;
 use crate::instants::Cut;
 use crate::sixty::{self, GANZHI};
@@ -62,13 +63,25 @@ impl Digest {
         }
     }
 
+    /// A volume's block, by fours of bytes.
+    pub fn feed_block(&mut self, block: &Block) {
+        let (fours, _) = block.as_chunks();
+        for &four in fours {
+            self.feed(u64::from(u32::from_le_bytes(four)));
+        }
+    }
+
+    pub fn feed_bytes(&mut self, bytes: &[u8]) {
+        for &byte in bytes {
+            self.feed(u64::from(byte));
+        }
+    }
+
     fn feed_month(&mut self, month: &Month) {
         self.feed_all(&fields::row(&month.row));
         self.feed(month.sixty);
         let name = sixty::label(month.sixty, &[], &GANZHI).expect("a day of the sixty");
-        for &byte in name {
-            self.feed(u64::from(byte));
-        }
+        self.feed_bytes(name);
         for phase in fields::phases(month) {
             self.feed_all(&phase);
         }

@@ -7,12 +7,14 @@
 //! for a middle term, an eclipse's size is counted along the degree marks, and a
 //! correction is made up of doublings. The planets are walked from conjunction to
 //! conjunction; their stages are read from the printed text ([`stage_text`]), and
-//! the days of the sixty are counted on one by one ([`sixty`]). [`Walker`] yields
-//! the round a year at a time, [`Checkpoints`] finds a single year, month or day
-//! quickly by walking on from a kept state.
+//! the days of the sixty are counted on one by one ([`sixty`]). A volume's totals
+//! are counted mark by mark, and its blocks are read field by field ([`blocks`]).
+//! [`Walker`] yields the round a year at a time, [`Checkpoints`] finds a single
+//! year, month or day quickly by walking on from a kept state.
 
 pub mod anomaly;
 pub mod ask;
+pub mod blocks;
 pub mod cases;
 pub mod checkpoints;
 pub mod digest;
@@ -30,6 +32,9 @@ pub mod spans;
 pub mod stage_text;
 pub mod stages;
 pub mod survey;
+pub mod volume_cases;
+pub mod volume_programs;
+pub mod volumes;
 pub mod walker;
 
 pub use checkpoints::Checkpoints;

@@ -1,9 +1,10 @@
-//! `second cases`, `second survey` or `second year_runs`, written to standard output.
+//! `second cases`, `second survey`, `second year_runs` or `second volume FIRST LAST`,
+//! written to standard output.
 
 use std::io::{self, BufWriter, Write};
 use std::process::ExitCode;
 
-use second::{cases, printer, survey};
+use second::{cases, printer, survey, volume_programs};
 
 fn main() -> ExitCode {
     let arguments: Vec<String> = std::env::args().skip(1).collect();
@@ -12,8 +13,15 @@ fn main() -> ExitCode {
         [what] if what == "cases" => cases::write(&mut out),
         [what] if what == "survey" => survey::write(&mut out),
         [what] if what == "year_runs" => printer::write_runs(&mut out),
+        [what, first, last] if what == "volume" => {
+            let blocks = volume_programs::span(first.as_bytes(), last.as_bytes());
+            volume_programs::write(&mut out, blocks)
+        }
         _ => {
-            eprintln!("usage: second cases | second survey | second year_runs");
+            eprintln!(
+                "usage: second cases | second survey | second year_runs | \
+                 second volume FIRST LAST"
+            );
             return ExitCode::from(2);
         }
     };

@@ -29,7 +29,7 @@ pub fn answer(input: &[u8]) -> String {
 }
 
 /// A line of digits as a number, unless it is too long to be a year.
-fn year_of(line: &[u8]) -> Option<u64> {
+pub fn year_of(line: &[u8]) -> Option<u64> {
     if line.is_empty() || !line.iter().all(u8::is_ascii_digit) {
         return None;
     }

@@ -2,8 +2,10 @@
 
 use std::io::{self, Write};
 
+use crate::blocks::Totals;
 use crate::digest::Digest;
 use crate::numbers::{ERAS, ERA_YEARS};
+use crate::volumes;
 use crate::walker::{Walker, Year};
 
 #[derive(Default)]
@@ -40,34 +42,42 @@ impl Counts {
     fn line(&self, title: &str, digests: &Digests) -> String {
         let leaps = self.leaps[1..].iter().map(u64::to_string);
         format!(
-            "{title} months {} long {} leaps {} new {} full {} digest {} planets {}\n",
+            "{title} months {} long {} leaps {} new {} full {} digest {} planets {} volume {}\n",
             self.months,
             self.long,
             leaps.collect::<Vec<_>>().join(" "),
             self.new_moons,
             self.full_moons,
             digests.months.value(),
-            digests.planets.value()
+            digests.planets.value(),
+            digests.volume.value()
         )
     }
 }
 
-/// The planets have a digest of their own, beside that of all the others.
+/// The planets and the volume have digests of their own, beside that of all the
+/// others.
 #[derive(Default)]
 struct Digests {
     months: Digest,
     planets: Digest,
+    /// The blocks of the years in the volume of the whole round.
+    volume: Digest,
 }
 
 impl Digests {
-    fn feed_year(&mut self, year: &Year) {
+    /// The totals are those of the volume before the year.
+    fn feed_year(&mut self, year: &Year, totals: &mut Totals) {
         self.months.feed_year(year);
         self.planets.feed_conjunctions(year);
+        let page = volumes::bind(totals, year);
+        self.volume.feed_block(&page.put_down());
     }
 
     fn add(&mut self, other: &Self) {
         self.months.feed_digest(&other.months);
         self.planets.feed_digest(&other.planets);
+        self.volume.feed_digest(&other.volume);
     }
 }
 
@@ -75,8 +85,9 @@ pub fn write(out: &mut impl Write) -> io::Result<()> {
     let mut walker = Walker::from_origin();
     let mut round = Counts::default();
     let mut round_digests = Digests::default();
+    let mut totals = Totals::default();
     for era in 1..=ERAS {
-        let (counts, digests) = survey_era(&mut walker);
+        let (counts, digests) = survey_era(&mut walker, &mut totals);
         out.write_all(counts.line(&format!("era {era}"), &digests).as_bytes())?;
         round.add(&counts);
         round_digests.add(&digests);
@@ -85,12 +96,12 @@ pub fn write(out: &mut impl Write) -> io::Result<()> {
     out.write_all(round.line("round", &round_digests).as_bytes())
 }
 
-fn survey_era(walker: &mut Walker) -> (Counts, Digests) {
+fn survey_era(walker: &mut Walker, totals: &mut Totals) -> (Counts, Digests) {
     let mut counts = Counts::default();
     let mut digests = Digests::default();
     for year in walker.take(ERA_YEARS as usize) {
         counts.count_year(&year);
-        digests.feed_year(&year);
+        digests.feed_year(&year, totals);
     }
     (counts, digests)
 }

@@ -1,11 +1,13 @@
 //! The Xinghe calendar, as `rt staticlib xinghe` makes it, for Rust.
 //!
 //! Every function takes any numbers whatever. `Err` holds the number under
-//! which the library refuses: 1 the year, 2 the place, 3 the day of the month or
-//! of the sixty, 4 a row that is not genuine, 5 a carry out of the round, 6 a
-//! list too short, 7 the day number, 8 the cut or its point, 9 the planet, 10
-//! two lists of names of which neither is 360 bytes. include/xinghe.h says what
-//! each value means; the arrays here are in its order.
+//! which the library refuses: 1 the year, 2 the place or a span in the wrong
+//! order, 3 the day of the month or of the sixty, 4 a row that is not genuine, 5 a
+//! carry out of the round, 6 a list or buffer too short, 7 the day number, 8 the
+//! cut or its point, 9 the planet, 10 two lists of names of which neither is 360
+//! bytes, 11 a volume that is empty or no whole number of blocks, 12 a block that
+//! is not what the writer gives. include/xinghe.h says what each value means; the
+//! arrays here are in its order.
 
 mod raw;
 
@@ -23,6 +25,9 @@ pub type Row = [u64; ROW];
 /// The bytes of a day's name, and of a list of sixty names.
 pub const NAME: usize = 6;
 pub const NAMES: usize = 360;
+
+/// The bytes of a volume's block: one year.
+pub const BLOCK: usize = 512;
 
 /// Where a walk ends.
 #[derive(Clone, Copy, Debug, PartialEq, Eq)]
@@ -152,6 +157,34 @@ pub fn fill_year(year: u64, list: &mut [u64]) -> Answer<()> {
         0 => Ok(()),
         number => Err(number),
     }
+}
+
+/// Writes the volume of the years from the first to the last, a [`BLOCK`] for
+/// each, to the front of the buffer, and gives the count of its bytes. The rest
+/// of the buffer stays as it was; refused, all of it does.
+///
+/// ```
+/// let mut buffer = [0; 2 * xinghe::BLOCK];
+/// assert_eq!(xinghe::write_volume(293_996, 293_997, &mut buffer), Ok(1_024));
+/// assert_eq!(xinghe::read_volume(&buffer), Ok([293_996, 293_997]));
+/// buffer[600] += 1;
+/// assert_eq!(xinghe::read_volume(&buffer), Err(12));
+/// ```
+pub fn write_volume(first: u64, last: u64, out: &mut [u8]) -> Answer<usize> {
+    let [written] = answer(|written| {
+        // SAFETY: as in `fill_year`.
+        unsafe { raw::xinghe_write_volume(first, last, out.as_mut_ptr(), out.len(), written) }
+    })?;
+    Ok(written as usize)
+}
+
+/// The first and the last year of a volume. It is answered only where every byte
+/// is what [`write_volume`] writes for those years.
+pub fn read_volume(volume: &[u8]) -> Answer<[u64; 2]> {
+    answer(|years| {
+        // SAFETY: as in `fill_year`; the volume is only read.
+        unsafe { raw::xinghe_read_volume(volume.as_ptr(), volume.len(), years) }
+    })
 }
 
 /// Carries a row by each of the counts in turn; those that would lead outside

@@ -45,4 +45,16 @@ unsafe extern "C" {
 
     /// `out` points to `length` numbers, and is neither null nor unaligned.
     pub fn xinghe_fill_year(year: u64, out: *mut u64, length: usize) -> u64;
+
+    /// `out` points to `length` bytes, and is not null.
+    pub fn xinghe_write_volume(
+        first: u64,
+        last: u64,
+        out: *mut u8,
+        length: usize,
+        written: &mut [u64; 1],
+    ) -> u64;
+
+    /// `volume` points to `length` bytes, and is not null.
+    pub fn xinghe_read_volume(volume: *const u8, length: usize, years: &mut [u64; 2]) -> u64;
 }

@@ -3,18 +3,15 @@ use mathlib.Core.Path.{_≡_, refl, ap, _∙_}
 use Prim.Native.Nat.{suc, _+_, _-_, _*_, _/_, _<_, _≤_}
 use native.Mathlib.Omega.{arith}
 use lib.ListN.{length}
-use Rattle.lunisolar.proofs.Rounds.{in-round}
-use Rattle.units.specs.Xinghe.{xinghe, roundMonths}
-use Rattle.units.proofs.Sound.{sound}
+use Rattle.units.specs.Xinghe.{roundMonths}
 use Rattle.calendar.specs.Heads.{yearHead}
 use Rattle.calendar.specs.Rows.{fieldCount}
 use Rattle.calendar.specs.Elements.{elementsOf, nextElements}
 use Rattle.calendar.specs.Answers.{headValues}
 use Rattle.calendar.specs.declared.HeadAnswer.{HeadAnswer}
-use Rattle.calendar.proofs.Round.{head-stands}
 use Rattle.calendar.proofs.Steps.{next-elements, elements-bound, head-before}
 use Rattle.year_list.specs.Filled.{rowsFrom, written, fillNumber}
-use Rattle.year_list.proofs.Fronts.{below-months, has-head}
+use Rattle.year_list.proofs.Fronts.{below-months, month-in-round}
 use Rattle.xinghe.specs.Years.{rowsFields, answerIn, fillAnswerIn, frontFields}
 use Rattle.xinghe.proofs.Fronts.{holds, as-long, one-more}
 use Rattle.xinghe.proofs.xinghe_fill_year.Statement.{statement}
@@ -94,10 +91,7 @@ next-requires c κs =
     let a = t .before in
     let h = a .before .before .before .before in
     let x = h .year-head .result in
-    let i = a .loop .i in
-    let y = h .before .before .args .year in
-    let stood = head-stands y (headValues x) (has-head x i (place t) ∙ headed h) i (place t) in
-    rw (a .loop .inv .3) (elements-bound (headValues x .before + i) (in-round xinghe sound (y - 1) i _ stood))
+    rw (a .loop .inv .3) (elements-bound (headValues x .before + a .loop .i) (month-in-round (h .before .before .args .year) x (a .loop .i) (headed h) (place t)))
 
 add-i : tie.Need-add-i Inv-loop μ-loop
 add-i c = omega arith

@@ -15,10 +15,12 @@ mod node;
 mod planets;
 mod rows;
 mod stages;
+mod volumes;
 
 pub use chapter::{Division, MonthsBefore, Table};
 pub use names::LIST;
 pub use rows::{Row, ROUND_DAYS, ROUND_MONTHS, ROUND_YEARS, ROW, SIXTY};
+pub use volumes::BLOCK;
 
 /// Writes the answer, or zeros, and returns the number.
 #[inline]
@@ -161,4 +163,14 @@ pub fn walk<B: MonthsBefore>(
 #[inline(never)]
 pub fn fill_year<B: MonthsBefore>(year: u64, out: &mut [u64]) -> u64 {
     rows::fill::<B>(year, out)
+}
+
+#[inline(never)]
+pub fn write_volume(first: u64, last: u64, out: &mut [u8], count: &mut [u64; 1]) -> u64 {
+    written(volumes::write(first, last, out), count)
+}
+
+#[inline(never)]
+pub fn read_volume(volume: &[u8], years: &mut [u64; 2]) -> u64 {
+    written(volumes::read(volume), years)
 }

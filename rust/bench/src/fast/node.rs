@@ -3,7 +3,7 @@
 use super::moon::{full_moon, new_moon, split, HALF_AT_FULL};
 use super::rows::{N, P};
 
-const M: u64 = 36_142_807;
+pub const M: u64 = 36_142_807;
 const ERA_MONTHS: u64 = 2_085_300;
 
 const OUTSIDE: u64 = 1;

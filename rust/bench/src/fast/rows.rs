@@ -52,7 +52,7 @@ fn leap_remainder(past: u64) -> u64 {
 /// The months of a year: twelve, and a thirteenth if the one after it begins by
 /// the next solstice's day.
 #[inline]
-fn months(past: u64, before: u64) -> u64 {
+pub fn months(past: u64, before: u64) -> u64 {
     12 + u64::from(begins_by(before + 13, solstice(past + 1)))
 }
 
@@ -61,7 +61,7 @@ fn months(past: u64, before: u64) -> u64 {
 /// division gives. A term gains nine tenths of a day on the new moon from place
 /// to place, so that by days it may also be `last` or the place before.
 #[inline]
-fn leap_place(past: u64, before: u64) -> u64 {
+pub fn leap_place(past: u64, before: u64) -> u64 {
     // From the solstice to the next new moon, a month being 562.
     let gap = chapter::YEARS - leap_remainder(past);
     let last = (12 * gap - 1) / chapter::LEAPS;
@@ -111,7 +111,7 @@ pub fn lunation<B: MonthsBefore>(number: u64, place: u64) -> Result<u64, u64> {
 
 /// The number of the month that holds the term so many after the solstice.
 #[inline]
-fn number(term: u64) -> u64 {
+pub fn number(term: u64) -> u64 {
     if term < 2 {
         term + 11
     } else {
@@ -120,7 +120,7 @@ fn number(term: u64) -> u64 {
 }
 
 #[inline]
-fn length(remainder: u64) -> u64 {
+pub fn length(remainder: u64) -> u64 {
     29 + u64::from(remainder >= LONG_FROM)
 }
 

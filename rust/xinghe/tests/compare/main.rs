@@ -1,6 +1,6 @@
 //! The library is compared with the independent second program. What is
 //! expected are that program's walked answers; nothing here works out a row, a
-//! node, a correction, a conjunction or a name.
+//! node, a correction, a conjunction, a name or a block.
 
 // The crate keeps its declarations to itself; `sentinels` needs them to see
 // what is written where a call is refused.
@@ -8,6 +8,7 @@
 mod raw;
 
 mod carries;
+mod damages;
 mod expected;
 mod labels;
 mod lists;
@@ -17,4 +18,5 @@ mod round;
 mod sentinels;
 mod single;
 mod tally;
+mod volumes;
 mod walks;

@@ -5,7 +5,7 @@ use borrow.Author.Needs.{needs}
 use lib.ListN.{length, length-append}
 use Rattle.year_text.specs.Decimal.{decimal}
 use Rattle.year_text.proofs.Decimals.{one-digit, last-digit}
-use Rattle.year_text.proofs.Writings.{and-then}
+use Rattle.writing.proofs.Writings.{and-then}
 use Prim.Native.Nat.{ℕ, _<_, _+_, _/_, _%_}
 use borrow.Fn.Kinds.{In}
 use borrow.Fn.PlainCycle.{Measures, is, falls, and}

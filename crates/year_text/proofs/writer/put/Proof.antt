@@ -1,4 +1,4 @@
-use Rattle.year_text.proofs.Writings.{wrote-byte}
+use Rattle.writing.proofs.Writings.{wrote-byte}
 use borrow.Author.Needs.{needs}
 use Rattle.year_text.proofs.writer.put.Statement.{statement}
 use Rattle.year_text.proofs.writer.put.Tie as tie

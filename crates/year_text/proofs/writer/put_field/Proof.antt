@@ -1,6 +1,6 @@
 use native.Mathlib.Omega.{arith}
 use Rattle.year_text.proofs.Decimals.{at-most-20}
-use Rattle.year_text.proofs.Writings.{and-then}
+use Rattle.writing.proofs.Writings.{and-then}
 use borrow.Author.Needs.{needs}
 use Rattle.year_text.proofs.writer.put_field.Statement.{statement}
 use Rattle.year_text.proofs.writer.put_field.Tie as tie

@@ -1,7 +1,7 @@
 use native.Mathlib.Omega.{arith}
 use Rattle.year_text.specs.Text.{placeText}
 use Rattle.year_text.proofs.Lengths.{field-length}
-use Rattle.year_text.proofs.Writings.{and-then}
+use Rattle.writing.proofs.Writings.{and-then}
 use borrow.Author.Needs.{needs}
 use Rattle.year_text.proofs.writer.put_place.Statement.{statement}
 use Rattle.year_text.proofs.writer.put_place.Tie as tie

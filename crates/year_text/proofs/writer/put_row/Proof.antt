@@ -1,7 +1,7 @@
 use native.Mathlib.Omega.{arith}
 use Rattle.year_text.specs.Text.{monthLine}
 use Rattle.year_text.proofs.Lengths.{place-length}
-use Rattle.year_text.proofs.Writings.{and-then}
+use Rattle.writing.proofs.Writings.{and-then}
 use borrow.Author.Needs.{needs}
 use Rattle.year_text.proofs.writer.put_row.Statement.{statement}
 use Rattle.year_text.proofs.writer.put_row.Tie as tie

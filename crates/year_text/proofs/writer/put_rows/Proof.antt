@@ -5,8 +5,8 @@ use borrow.Author.Needs.{needs}
 use lib.ListN.{take, length-take}
 use Rattle.calendar.specs.Answers.{zeroRow}
 use Rattle.year_text.specs.Text.{rowLines}
-use Rattle.year_text.specs.Written.{Wrote}
-use Rattle.year_text.proofs.Writings.{wrote-none, and-then}
+use Rattle.writing.specs.Written.{Wrote}
+use Rattle.writing.proofs.Writings.{wrote-none, and-then}
 use Rattle.year_text.proofs.Lengths.{lines-more, lines-length}
 use Rattle.year_text.proofs.writer.put_rows.Statement.{statement}
 use Rattle.year_text.proofs.writer.put_rows.Tie as tie

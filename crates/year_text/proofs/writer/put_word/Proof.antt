@@ -5,8 +5,8 @@ use native.Mathlib.Omega.{arith}
 use borrow.Author.Needs.{needs}
 use lib.ListN.{length, take}
 use lib.Seq.{take-all}
-use Rattle.year_text.specs.Written.{Wrote}
-use Rattle.year_text.proofs.Writings.{wrote-none, wrote-to, word-more}
+use Rattle.writing.specs.Written.{Wrote}
+use Rattle.writing.proofs.Writings.{wrote-none, wrote-to, word-more}
 use Rattle.year_text.proofs.writer.put_word.Statement.{statement}
 use Rattle.year_text.proofs.writer.put_word.Tie as tie
 

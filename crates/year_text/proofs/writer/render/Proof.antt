@@ -8,7 +8,7 @@ use Rattle.year_list.specs.Filled.{rowsFrom}
 use Rattle.year_list.specs.declared.YearRows.{YearRows}
 use Rattle.year_list.proofs.Years.{front-rows}
 use Rattle.year_text.specs.Text.{textFor}
-use Rattle.year_text.proofs.Writings.{and-then, from-front}
+use Rattle.writing.proofs.Writings.{and-then, from-front}
 use Rattle.year_text.proofs.Lengths.{head-length}
 use borrow.Author.Needs.{needs}
 use Rattle.year_text.proofs.writer.render.Statement.{statement}
@@ -44,17 +44,8 @@ put-rows-requires c κs =
 enum-known-head-2 : tie.Need-enum-known-head-2
 enum-known-head-2 c = search needs
 
-slice-aggregate-put-word : tie.Need-slice-aggregate-put-word
-slice-aggregate-put-word c = search needs
-
-put-word-requires : tie.Need-put-word-requires
-put-word-requires c κs = search needs
-
-number-requires : tie.Need-number-requires
-number-requires c κs = search needs
-
-put-field-requires : tie.Need-put-field-requires
-put-field-requires c κs = search needs
+put-refusal-requires : tie.Need-put-refusal-requires
+put-refusal-requires c κs = search needs
 
 returns : tie.Need-returns
 unfolding textFor
@@ -65,11 +56,10 @@ returns c =
 returns-2 : tie.Need-returns-2
 unfolding textFor
 returns-2 c =
-    let e = c .before .before .before .before .before .before .before in
-    let v = e .before .before .before in
+    let e = c .before .before .before in
+    let v = c .before .before .before .before .before .before in
     let refused = sym (e .head2 .given .1) ∙ ap (λ (x : YearRows). x .head) (v .year-by-value .ensures) in
-    let text = and-then (c .before .before .before .put-word .ensures) (c .put-field .ensures) in
-    rw (← refused) (from-front (rw (c .before .number .ensures) at text))
+    rw (← refused) (from-front (c .put-refusal .ensures))
 
 pub render-spec : {M : Type 1} → statement M
 render-spec =
@@ -80,9 +70,6 @@ render-spec =
     put-head-requires
     put-rows-requires
     enum-known-head-2
-    slice-aggregate-put-word
-    put-word-requires
-    number-requires
-    put-field-requires
+    put-refusal-requires
     returns
     returns-2)

@@ -1,0 +1,18 @@
+use borrow.Author.Needs.{needs}
+use Rattle.volumes.proofs.reader.ReadAnswer.years.Statement.{statement}
+use Rattle.volumes.proofs.reader.ReadAnswer.years.Tie as tie
+
+enum-known-self : tie.Need-enum-known-self
+enum-known-self c = search needs
+
+enum-told : tie.Need-enum-told
+enum-told c = search needs
+
+returns : tie.Need-returns
+returns c = rw (c .before .self .given .1)
+
+returns-2 : tie.Need-returns-2
+returns-2 c = search needs
+
+pub years-spec : {M : Type 1} → statement M
+years-spec = tie.close (tie.spec enum-known-self enum-told returns returns-2)

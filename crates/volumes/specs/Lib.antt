@@ -1,0 +1,4 @@
+pub mod Volume
+pub mod Writer
+pub mod Reader
+pub mod Stream

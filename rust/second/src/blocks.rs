@@ -1,0 +1,199 @@
+//! One block of a volume: a year's fields put down one after the other, and taken
+//! up again from the front.
+
+use crate::walker::{Month, Year};
+
+/// The bytes of a block.
+pub const BLOCK: usize = 512;
+pub type Block = [u8; BLOCK];
+
+/// Room for the longest year.
+const RECORDS: usize = 13;
+/// The zeros between the totals and the check.
+const ZEROS: usize = 282;
+/// The bytes that the check is over; its own two come after them.
+const CHECKED: usize = 510;
+/// The check is a sum less this prime as often as it goes.
+const PRIME: u32 = 65_521;
+
+/// What a volume has counted since its first year.
+#[derive(Clone, Copy, Debug, Default, PartialEq, Eq)]
+pub struct Totals {
+    leaps: u32,
+    new_moons: u32,
+    full_moons: u32,
+}
+
+impl Totals {
+    /// Counts on by the marks of a year's months, one by one.
+    pub fn count_year(&mut self, year: &Year) {
+        for month in &year.months {
+            self.leaps += u32::from(month.row.leap);
+            self.new_moons += u32::from(month.new_moon_node.eclipse.marked);
+            self.full_moons += u32::from(month.full_moon_node.eclipse.marked);
+        }
+    }
+}
+
+/// What a block says of a month.
+#[derive(Clone, Copy, Debug, Default, PartialEq, Eq)]
+struct Record {
+    lunation: u32,
+    day: u32,
+    remainder: u32,
+    length: u8,
+    number: u8,
+    leap: u8,
+}
+
+impl Record {
+    fn of_month(month: &Month) -> Self {
+        let row = &month.row;
+        Self {
+            lunation: wide(row.lunation),
+            day: wide(row.day),
+            remainder: wide(row.remainder),
+            length: narrow(row.length),
+            number: narrow(row.number),
+            leap: u8::from(row.leap),
+        }
+    }
+}
+
+/// What a block says, without its zeros and its check.
+#[derive(Clone, Copy, Debug, PartialEq, Eq)]
+pub struct Page {
+    year: u32,
+    months: u8,
+    leap_place: u8,
+    records: [Record; RECORDS],
+    totals: Totals,
+}
+
+impl Page {
+    /// The totals have the year itself in them.
+    pub fn of_year(year: &Year, totals: &Totals) -> Self {
+        let mut records = [Record::default(); RECORDS];
+        for (record, month) in records.iter_mut().zip(&year.months) {
+            *record = Record::of_month(month);
+        }
+        Self {
+            year: wide(year.number),
+            months: narrow(year.months.len() as u64),
+            leap_place: narrow(year.leap_place),
+            records,
+            totals: *totals,
+        }
+    }
+
+    pub fn year(&self) -> u64 {
+        u64::from(self.year)
+    }
+
+    pub fn put_down(&self) -> Block {
+        let mut bytes = Vec::with_capacity(BLOCK);
+        bytes.extend(self.year.to_le_bytes());
+        bytes.extend([self.months, self.leap_place, 0, 0]);
+        for record in &self.records {
+            bytes.extend(record.lunation.to_le_bytes());
+            bytes.extend(record.day.to_le_bytes());
+            bytes.extend(record.remainder.to_le_bytes());
+            bytes.extend([record.length, record.number, record.leap, 0]);
+        }
+        bytes.extend(self.totals.leaps.to_le_bytes());
+        bytes.extend(self.totals.new_moons.to_le_bytes());
+        bytes.extend(self.totals.full_moons.to_le_bytes());
+        bytes.resize(CHECKED, 0);
+        let check = check(&bytes);
+        bytes.extend(check.to_le_bytes());
+        bytes.try_into().expect("a block's bytes")
+    }
+
+    /// Nothing where the check is wrong or a byte is not zero that has to be.
+    pub fn take_up(block: &Block) -> Option<Self> {
+        let mut bytes = Bytes { rest: block };
+        let year = bytes.wide();
+        let [months, leap_place] = bytes.taken();
+        bytes.zeros::<2>()?;
+        let mut records = [Record::default(); RECORDS];
+        for record in &mut records {
+            *record = bytes.record()?;
+        }
+        let totals = Totals {
+            leaps: bytes.wide(),
+            new_moons: bytes.wide(),
+            full_moons: bytes.wide(),
+        };
+        bytes.zeros::<ZEROS>()?;
+        let told = u16::from_le_bytes(bytes.taken());
+        assert!(bytes.rest.is_empty(), "the fields end before the block");
+        (told == check(&block[..CHECKED])).then_some(Self {
+            year,
+            months,
+            leap_place,
+            records,
+            totals,
+        })
+    }
+}
+
+/// The bytes of a block that are not taken up yet.
+struct Bytes<'a> {
+    rest: &'a [u8],
+}
+
+impl Bytes<'_> {
+    fn taken<const COUNT: usize>(&mut self) -> [u8; COUNT] {
+        let (front, rest) = self.rest.split_first_chunk().expect("bytes of a block");
+        self.rest = rest;
+        *front
+    }
+
+    fn wide(&mut self) -> u32 {
+        u32::from_le_bytes(self.taken())
+    }
+
+    fn zeros<const COUNT: usize>(&mut self) -> Option<()> {
+        (self.taken() == [0; COUNT]).then_some(())
+    }
+
+    fn record(&mut self) -> Option<Record> {
+        let (lunation, day, remainder) = (self.wide(), self.wide(), self.wide());
+        let [length, number, leap] = self.taken();
+        self.zeros::<1>()?;
+        Some(Record {
+            lunation,
+            day,
+            remainder,
+            length,
+            number,
+            leap,
+        })
+    }
+}
+
+/// Byte i counts i + 1 times. Going backwards, a sum of the bytes so far is added
+/// up byte after byte: it has byte i in it at i itself and at each place before.
+fn check(bytes: &[u8]) -> u16 {
+    let (mut so_far, mut sum) = (0, 0);
+    for &byte in bytes.iter().rev() {
+        so_far = reduced(so_far + u32::from(byte));
+        sum = reduced(sum + so_far);
+    }
+    sum as u16
+}
+
+fn reduced(mut sum: u32) -> u32 {
+    while sum >= PRIME {
+        sum -= PRIME;
+    }
+    sum
+}
+
+fn wide(number: u64) -> u32 {
+    u32::try_from(number).expect("four bytes hold it")
+}
+
+fn narrow(number: u64) -> u8 {
+    u8::try_from(number).expect("a byte holds it")
+}
