@@ -4,13 +4,14 @@
  * writes its values to the arrays that the caller lends. Where it refuses it
  * returns one of the numbers below and writes zeros; xinghe_fill_year writes
  * nothing then, and xinghe_write_volume nothing to its buffer. The lowest
- * number that applies is returned.
+ * number that applies is returned; only xinghe_marked asks for 11 before 2.
  *
  * number returned     given exactly when
  *   0                 answered
  *   1                 the year is outside 1 to 1,011,600
  *   2                 the place is not below the year's month count, or the
- *                     first year of a span is after the last
+ *                     first year of a span is after the last, or a year of it
+ *                     is not in the volume
  *   3                 the day of the month is 0 or past the month's length, or
  *                     the day of the sixty is outside 1 to 60
  *   4                 a handed-in row differs in any field from the month of
@@ -24,7 +25,10 @@
  *  10                 neither list of day names is 360 bytes
  *  11                 the volume is empty or no whole number of blocks
  *  12                 a block of the volume has a wrong check or is not what
- *                     the writer gives for its place and the first block's year
+ *                     the writer gives for its place and the first block's year;
+ *                     for xinghe_marked, a block that it looks at has a wrong
+ *                     check, or a total of the later one is below that of the
+ *                     earlier
  *
  * Years are written from 1. A place is a month's index in its year, from 0;
  * place 0 is the eleventh month. Days are counted from the origin, from 0; day 0
@@ -282,6 +286,21 @@ uint64_t xinghe_write_volume(uint64_t first, uint64_t last, uint8_t *out,
  * years[1]  last year */
 uint64_t xinghe_read_volume(const uint8_t *volume, size_t length,
                             uint64_t years[2]);
+
+/* The marked new moons and the marked full moons of the years from `from` to
+ * `to` of a volume, both included. The volume's first year is the number in its
+ * first four bytes, and each block is one year more. Answered are the totals in
+ * the block of year `to` less those in the block before that of year `from`;
+ * where `from` is the first year, the totals in the block of year `to` alone.
+ * Besides these one or two blocks, the first four bytes and the length nothing of
+ * the volume is looked at. For a volume that xinghe_read_volume answers it is the
+ * count of every month. Refused: 11, then 2 (a year is not in the volume, or
+ * `from` is after `to`), then 12 (either block has a wrong check, or one of the
+ * later block's three totals, leap months included, is below the earlier's).
+ * moons[0]  marked new moons
+ * moons[1]  marked full moons */
+uint64_t xinghe_marked(const uint8_t *volume, size_t length, uint64_t from,
+                       uint64_t to, uint64_t moons[2]);
 
 #ifdef __cplusplus
 }

@@ -1,9 +1,9 @@
 -- The sum of (i + 1) times byte i.
 -- Assumes nothing.
-use mathlib.Core.Path.{_≡_, refl}
+use mathlib.Core.Path.{_≡_, refl, ap}
 use mathlib.Core.List.{List, [], _∷_, _++_}
 use Prim.Native.Nat.{ℕ, zero, suc, _+_, _*_, _≤_, _<_}
-use native.Mathlib.Nat.{add-zero, mul-le-mul}
+use native.Mathlib.Nat.{add-zero, add-mul, mul-le-mul}
 use native.Mathlib.Numerals.{add-one}
 use native.Mathlib.Omega.{arith}
 use lib.ListN.{length, take, getD}
@@ -18,12 +18,16 @@ sum-append i (x ∷ xs) ys =
     let e : i + 1 + length xs ≡ i + suc (length xs) = omega arith in
     rw (sum-append (i + 1) xs ys, e) (omega arith)
 
--- one byte more
-pub sum-more : (bs : List ℕ) (i : ℕ) → i < length bs → weighted 0 (take (i + 1) bs) ≡ weighted 0 (take i bs) + (i + 1) * getD bs i 0
+-- one byte more, in two terms
+pub sum-more : (past : ℕ) (bs : List ℕ) (i : ℕ) → i < length bs → weighted past (take (i + 1) bs) ≡ weighted past (take i bs) + ((i + 1) * getD bs i 0 + past * getD bs i 0)
 unfolding weighted
-sum-more bs i h =
+sum-more past bs i h =
     let long : length (take i bs) ≡ i = length-take-le i bs (omega arith) in
-    rw (add-one i, take-suc bs i 0 h, sum-append 0 (take i bs) (getD bs i 0 ∷ []), long) (omega arith)
+    let terms : (past + i + 1) * getD bs i 0 ≡ (i + 1) * getD bs i 0 + past * getD bs i 0 = omega (arith, add-mul (i + 1) past (getD bs i 0), ap (λ (w : ℕ). w * getD bs i 0) (weights past i)) in
+    rw (add-one i, take-suc bs i 0 h, sum-append past (take i bs) (getD bs i 0 ∷ []), long) (omega (arith, terms))
+  where
+    weights : (p k : ℕ) → p + k + 1 ≡ k + 1 + p
+    weights p k = omega arith
 
 -- zeros add nothing
 pub sum-zeros : (i n : ℕ) → weighted i (zeros n) ≡ 0

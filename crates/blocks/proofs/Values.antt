@@ -15,7 +15,7 @@ use Rattle.totals.specs.Totals.{monthsOf}
 use Rattle.totals.specs.declared.Totals.{Totals}
 use Rattle.blocks.specs.Bytes.{le32, le16, zeros, value32, value16}
 use Rattle.blocks.specs.Check.{checkOf, rightCheck}
-use Rattle.blocks.specs.Block.{headBytes, records, totalsBytes, frontOf, bodyOf, blockOf}
+use Rattle.blocks.specs.Block.{headBytes, records, totalsBytes, frontOf, bodyOf, blockOf, totalsIn}
 use Rattle.blocks.proofs.Blocks.{body-length, before-totals}
 
 low : (x : ℕ) → x % 256 + 256 * (x / 256 % 256) ≡ x % 65536
@@ -78,3 +78,8 @@ module _ (y : ℕ) (t : Totals) where
   pub fulls-of : t .fulls < 4294967296 → value32 (blockOf y t) 224 ≡ t .fulls
   unfolding totalsBytes
   fulls-of h = from-totals 8 ∙ value-le32 (t .fulls) [] h
+
+  -- THE TOTALS READ BACK are those that were written, where each is below 2^32
+  pub totals-back : t .leaps < 4294967296 → t .news < 4294967296 → t .fulls < 4294967296 → totalsIn (blockOf y t) ≡ t
+  unfolding totalsIn
+  totals-back l n f = rw (leaps-of l, news-of n, fulls-of f)

@@ -10,7 +10,7 @@ use Rattle.calendar.specs.declared.MonthRow.{MonthRow}
 use Rattle.year_list.specs.Filled.{rowAt}
 use Rattle.totals.specs.Totals.{monthsOf}
 use Rattle.totals.specs.declared.Totals.{Totals}
-use Rattle.blocks.specs.Bytes.{le32, le16, zeros}
+use Rattle.blocks.specs.Bytes.{le32, le16, zeros, value32}
 use Rattle.blocks.specs.Check.{checkOf}
 
 -- the year in 4 bytes, its month count, its leap place, two zeros
@@ -43,3 +43,7 @@ bodyOf n t = frontOf n t ++ zeros 282
 -- and the check in two bytes
 unfoldable pub blockOf : ℕ → Totals → List ℕ
 blockOf n t = bodyOf n t ++ le16 (checkOf (bodyOf n t))
+
+-- the three totals that any 512 bytes hold (02 §7), where `totalsBytes` puts them
+unfoldable pub totalsIn : List ℕ → Totals
+totalsIn block = record { leaps = value32 block 216; news = value32 block 220; fulls = value32 block 224 }

@@ -4,7 +4,7 @@ ghost use mathlib.Core.List.{[], _∷_, _++_};
 ghost use Prim.Native.Nat.{_+_, _≤_, _<_};
 ghost use lib.ListN.{length};
 ghost use Rattle.writing.specs.Written.{Wrote};
-ghost use Rattle.blocks.specs.Bytes.{le32, le16, zeros, value32, same};
+ghost use Rattle.blocks.specs.Bytes.{le32, le16, zeros, value32, value16, same};
 
 pub fn put_four(out: &mut [u8], at: usize, a: u8, b: u8, c: u8, d: u8)
     requires { ⌜ at + 4 ≤ length (now out) ⌝ }
@@ -74,6 +74,14 @@ pub fn u32_at(bytes: &[u8], at: usize) -> u64
         + 256 * wide(bytes[at + 1])
         + 65536 * wide(bytes[at + 2])
         + 16777216 * wide(bytes[at + 3])
+}
+
+// The same of two bytes.
+pub fn u16_at(bytes: &[u8], at: usize) -> u64
+    requires { ⌜ at + 2 ≤ length (now bytes) ⌝ }
+    ensures { λ r. ⌜ r ≡ value16 (now (bytes .entry)) at ⌝ }
+{
+    wide(bytes[at]) + 256 * wide(bytes[at + 1])
 }
 
 // Whether two lists of one length hold the same bytes. It goes to the end whatever it finds, with no branch.

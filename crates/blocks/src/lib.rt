@@ -9,7 +9,7 @@ ghost use lib.ListN.{length};
 ghost use Rattle.writing.specs.Written.{Wrote};
 ghost use Rattle.calendar.specs.Heads.{yearHead};
 ghost use Rattle.calendar.specs.Answers.{headValues};
-ghost use Rattle.blocks.specs.Block.{headBytes, recordBytes, records, totalsBytes, blockOf};
+ghost use Rattle.blocks.specs.Block.{headBytes, recordBytes, records, totalsBytes, blockOf, totalsIn};
 
 pub mod bytes;
 pub mod check;
@@ -104,4 +104,16 @@ pub fn fill_block(out: &mut [u8], year: u64, head: HeadAnswer, totals: Totals)
     let sum = check::check(&out[..ZEROS]);
     bytes::put_zeros(out, ZEROS, GAP);
     bytes::put_u16(out, CHECK, sum as u64);
+}
+
+// The totals that a block holds, whatever else it does.
+pub fn totals_in(block: &[u8]) -> Totals
+    requires { ⌜ length (now block) ≡ 512 ⌝ }
+    ensures { λ r. ⌜ r ≡ totalsIn (now (block .entry)) ⌝ }
+{
+    Totals {
+        leaps: bytes::u32_at(block, TOTALS),
+        news: bytes::u32_at(block, TOTALS + 4),
+        fulls: bytes::u32_at(block, TOTALS + 8),
+    }
 }

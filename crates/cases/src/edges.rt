@@ -3,6 +3,7 @@ use crate::lists;
 use crate::name_edges;
 use crate::planet_edges;
 use crate::questions;
+use crate::reign_edges;
 use crate::volume_edges;
 
 pub fn ask_edges() {
@@ -18,6 +19,7 @@ pub fn ask_edges() {
     planet_edges::ask_planets();
     name_edges::ask_names();
     volume_edges::ask_volumes();
+    reign_edges::ask_reigns();
 }
 
 fn ask_years_and_places() {

@@ -5,6 +5,7 @@ mod lists;
 mod name_edges;
 mod planet_edges;
 mod questions;
+mod reign_edges;
 mod volume_edges;
 mod years;
 

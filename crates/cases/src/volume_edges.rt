@@ -11,7 +11,7 @@ ghost use lib.ListN.{length};
 const BUFFER: usize = 2048;
 
 // A place at which no byte is altered.
-const WHOLE: usize = BUFFER;
+pub const WHOLE: usize = BUFFER;
 
 // What the writer answered, and the buffer afterwards.
 struct Writing {
@@ -54,8 +54,8 @@ fn ask_write(first: u64, last: u64, room: usize)
     }
 }
 
-// A volume with one byte altered.
-fn altered(first: u64, last: u64, at: usize, byte: u8) -> [u8; BUFFER]
+// A volume with one byte altered, at the front of zeros; where the writer refuses there are zeros alone.
+pub fn altered(first: u64, last: u64, at: usize, byte: u8) -> [u8; BUFFER]
     ensures { λ r. ⌜ 2048 ≡ length r ⌝ }
 {
     let mut buffer = lent(0);

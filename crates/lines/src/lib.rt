@@ -4,7 +4,7 @@ use walking::Sign;
 
 pub mod digest;
 
-// The longest line has 220 bytes and its end. What does not fit is left out, so that building a line asks nothing of its caller.
+// The longest line has 248 bytes and its end. What does not fit is left out, so that building a line asks nothing of its caller.
 pub struct Line {
     pub bytes: [u8; 256],
     pub len: usize,

@@ -25,13 +25,13 @@ pub enum Refusal {
     DayOfSixty,
     // neither of two lent lists of day names is exactly 360 bytes
     Names,
-    // a span of years in the wrong order
+    // a span of years in the wrong order, or with a year that is not in the volume
     Span,
     // a lent buffer shorter than the volume
     Room,
     // bytes that are no whole number of blocks, or none
     Volume,
-    // a block with a wrong check, or not the writer's for its place and the first block's year
+    // a block with a wrong check, or not the writer's for its place and the first block's year; totals that fall from one block to another
     Block,
 }
 

@@ -2,6 +2,7 @@
 // independent second program writes.
 mod counts;
 mod fields;
+mod reign;
 mod volume;
 mod years;
 

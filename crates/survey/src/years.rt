@@ -1,6 +1,7 @@
 // Every question of the calendar, asked of every month and year of an era.
 use crate::counts::Counts;
 use crate::fields;
+use crate::reign;
 use crate::volume;
 use lines::Line;
 use lines::digest::Digest;
@@ -15,6 +16,7 @@ pub struct Survey {
     pub digest: Digest,
     pub planets: Digest,
     pub volume: Digest,
+    pub marked: Digest,
 }
 
 impl Survey {
@@ -23,11 +25,13 @@ impl Survey {
         let digest = Digest::new();
         let planets = Digest::new();
         let volume = Digest::new();
+        let marked = Digest::new();
         Self {
             counts,
             digest,
             planets,
             volume,
+            marked,
         }
     }
 
@@ -45,11 +49,13 @@ impl Survey {
         let counts = counted.count_month(row, nodes);
         let planets = self.planets;
         let volume = self.volume;
+        let marked = self.marked;
         Self {
             counts,
             digest,
             planets,
             volume,
+            marked,
         }
     }
 
@@ -71,11 +77,13 @@ impl Survey {
         let counts = counted.count_year(head.leap);
         let planets = feed_planets(self.planets, year);
         let volume = volume::feed_block(self.volume, year);
+        let marked = reign::feed_marked(self.marked, year);
         Self {
             counts,
             digest,
             planets,
             volume,
+            marked,
         }.months(year, head.months, ganzhi)
     }
 
@@ -93,11 +101,15 @@ impl Survey {
         let round_volume = self.volume;
         let era_volume = era.volume;
         let volume = round_volume.feed_digest(era_volume);
+        let round_marked = self.marked;
+        let era_marked = era.marked;
+        let marked = round_marked.feed_digest(era_marked);
         Self {
             counts,
             digest,
             planets,
             volume,
+            marked,
         }
     }
 
@@ -106,6 +118,7 @@ impl Survey {
         let digest = self.digest;
         let planets = self.planets;
         let volume = self.volume;
+        let marked = self.marked;
         counts
             .on_line(title)
             .text(b" digest")
@@ -114,6 +127,8 @@ impl Survey {
             .number(planets.value())
             .text(b" volume")
             .number(volume.value())
+            .text(b" marked")
+            .number(marked.value())
             .write();
     }
 }

@@ -1,7 +1,9 @@
 -- Totals of a run of years (02 §6): leap months, marked new moons, marked full moons.
 -- Assumes nothing.
-use Prim.Native.Nat.{ℕ, zero, suc, _+_}
+use mathlib.Core.Bool.{Bool}
+use Prim.Native.Nat.{ℕ, zero, suc, _+_, _-_}
 use Rattle.reckoning.specs.Search.{count}
+use Rattle.units.specs.Xinghe.{rule}
 use Rattle.calendar.specs.Heads.{yearHead}
 use Rattle.calendar.specs.Answers.{headValues}
 use Rattle.ephemeris.specs.Jobs.{nodesAt}
@@ -32,3 +34,7 @@ plus a b = record { leaps = a .leaps + b .leaps; news = a .news + b .news; fulls
 unfoldable pub totals : ℕ → ℕ → Totals
 totals first zero = none
 totals first (suc k) = plus (totals first k) (marksOf (first + k))
+
+-- at how many months of the round's years from one to another, the first at least 1, a test of months passes (02 §7)
+abbrev pub overMonths : (ℕ → Bool) → ℕ → ℕ → ℕ
+overMonths marked from to = count (λ (i : ℕ). marked (rule .before (from - 1) + i)) (rule .before to - rule .before (from - 1))

@@ -77,8 +77,13 @@ one-place xs ys i e h same =
     (λ (n : k ≢ i). same k n ∙ sym (getD-set-other xs i k v 0 n))
     (same-or k i))
 
--- ANY ONE ALTERED BYTE OF AN ACCEPTED VOLUME IS CAUGHT: a volume of the same length that differs from it at one place, and at no other, is refused
--- under 12
-pub altered-refused : (bytes altered : List ℕ) (first last i : ℕ) → readAnswer bytes ≡ ReadAnswer.Years first last → length altered ≡ length bytes → i < length bytes → getD altered i 0 < 256 → ¬ (getD bytes i 0 ≡ getD altered i 0) → ((k : ℕ) → ¬ (k ≡ i) → getD altered k 0 ≡ getD bytes k 0) → readAnswer altered ≡ ReadAnswer.Refused Refusal.Block
-altered-refused bytes altered first last i read long here small other same =
-    ap readAnswer (one-place bytes altered i long here same) ∙ set-refused bytes first last i (getD altered i 0) read here small other
+-- a volume that differs from an accepted one at one place, and at no other
+module _ (bytes altered : List ℕ) (first last i : ℕ) (read : readAnswer bytes ≡ ReadAnswer.Years first last) (long : length altered ≡ length bytes) (here : i < length bytes) (small : getD altered i 0 < 256) (other : ¬ (getD bytes i 0 ≡ getD altered i 0)) (same : (k : ℕ) → ¬ (k ≡ i) → getD altered k 0 ≡ getD bytes k 0) where
+  -- THE BLOCK WITH THAT BYTE HAS A WRONG CHECK
+  pub wrong-block : ¬ (T (rightCheck (blockIn altered (i / 512))))
+  wrong-block = rw (one-place bytes altered i long here same) (wrong bytes first last i (getD altered i 0) read here small other)
+
+  -- ANY ONE ALTERED BYTE OF AN ACCEPTED VOLUME IS CAUGHT: a volume of the same length that differs from it at one place, and at no other, is
+  -- refused under 12
+  pub altered-refused : readAnswer altered ≡ ReadAnswer.Refused Refusal.Block
+  altered-refused = ap readAnswer (one-place bytes altered i long here same) ∙ set-refused bytes first last i (getD altered i 0) read here small other

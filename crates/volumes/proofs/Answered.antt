@@ -69,7 +69,7 @@ module _ (first last room : ℕ) where
       rw (T-true (isYear first) (year-in first (r .least) (omega (arith, r .order, r .most))), T-true (isYear last) (year-in last (omega (arith, r .least, r .order)) (r .most)), le-leb first last (r .order), le-leb (512 * (last + 1 - first)) room h)
 
 -- what the test of a volume's length says
-whole : (n : ℕ) → T (wholeBlocks n) → (1 ≤ n) × (n % 512 ≡ 0)
+pub whole : (n : ℕ) → T (wholeBlocks n) → (1 ≤ n) × (n % 512 ≡ 0)
 unfolding wholeBlocks
 whole n t = (leb→le 1 n (both-left (leb 1 n) (eqb (n % 512) 0) t), eqb→eq (n % 512) 0 (both-right (leb 1 n) (eqb (n % 512) 0) t))
 
@@ -80,6 +80,9 @@ read-tests false q a z b y e = let w : _≡_ {A = ℕ} 0 1 = cc in absurd (omega
 
 -- an accepted volume is the writer's for its years
 pub record Accepted (bytes : List ℕ) (first last : ℕ) : Type 0 where
+  pub whole : T (wholeBlocks (length bytes))
+  pub named : firstYear bytes ≡ first
+  pub count : blockCount bytes ≡ last + 1 - first
   pub run : Run first last
   pub is : bytes ≡ volumeOf first last
 
@@ -97,6 +100,9 @@ accepted bytes first last e =
     let long : 512 * k ≡ length bytes = omega (arith, w) in
     let years : last + 1 - first ≡ k = omega (arith, t .2, t .3) in
     record {
+      whole = t .0;
+      named = t .2;
+      count = sym years;
       run = record { least = omega (arith, low, t .2); order = omega (arith, t .2, t .3); most = omega (arith, high, t .3) };
       is = rw (years, ← (t .2)) (sym (take-all (512 * k) bytes (omega (arith, long))) ∙ blocks-are f bytes k (λ i h. genuine-block bytes i (each i h)));
     }

@@ -9,6 +9,7 @@ ghost use lib.ListN.{length};
 ghost use Rattle.units.specs.Xinghe.{isYear};
 ghost use Rattle.totals.specs.Totals.{totals};
 ghost use Rattle.volumes.specs.Volume.{blockAt};
+ghost use Rattle.volumes.specs.Reader.{wholeBlocks};
 ghost use Rattle.volumes.specs.Stream.{isRun};
 
 pub mod reader;
@@ -25,6 +26,13 @@ pub fn is_run(first: u64, year: u64) -> bool
     ensures { λ r. ⌜ r ≡ isRun first year ⌝ }
 {
     is_year(first) & (is_year(year) & (first <= year))
+}
+
+// Whether so many bytes are a whole number of blocks, and not none.
+pub fn whole_blocks(bytes: usize) -> bool
+    ensures { λ r. ⌜ r ≡ wholeBlocks bytes ⌝ }
+{
+    (1 <= bytes) & (bytes % BLOCK == 0)
 }
 
 // The block of a year in the volume from a first year on, over the whole of a lent part. The totals of all years before the first are at hand.

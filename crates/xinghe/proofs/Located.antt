@@ -7,7 +7,7 @@ use native.Mathlib.Omega.{arith}
 use lib.ListN.{getD}
 use Rattle.names.specs.Names.{nameBytes, Bytes, size, slice, locationNumber, nameFrom, labelLocation, labelOf, labelNumber}
 use Rattle.names.proofs.Locations.{location-cases}
-use Rattle.xinghe.specs.Fields.{locationFields}
+use Rattle.fields.specs.Fields.{locationFields}
 
 -- list 1 is theirs, list 2 the house's, and no other is one
 abbrev pub numbered : ℕ → Bytes → Bytes → Bytes

@@ -17,16 +17,15 @@ ghost use Rattle.names.specs.Names.{bytesOf, labelLocation, labelNumber};
 ghost use Rattle.names.specs.Ganzhi.{ganzhi};
 ghost use Rattle.planets.specs.Jobs.{conjunctionsAt, stagesAt};
 ghost use Rattle.planets.specs.Answers.{conjunctionsNumber, conjunctionsValues, stagesNumber, stagesCount};
-ghost use Rattle.xinghe.specs.Fields.{conjunctionsFields, stagesFields, locationFields, headFields, dayFields, dateFields, phasesFields, nodesFields, correctionsFields, pointFields};
+ghost use Rattle.fields.specs.Fields.{conjunctionsFields, stagesFields, locationFields, headFields, dayFields, dateFields, phasesFields, nodesFields, correctionsFields, pointFields};
 ghost use Rattle.calendar.specs.Carries.{carriedFields};
 ghost use Rattle.walk.specs.Walked.{walkAnswerFields, walkNumber, walkValues};
-ghost use Rattle.xinghe.specs.Walks.{totalsFields};
+ghost use Rattle.fields.specs.Walks.{totalsFields};
 ghost use Rattle.xinghe.specs.Years.{fillAnswerIn, filledFields};
 ghost use Rattle.volumes.specs.Writer.{writeAnswer, afterWrite, writeNumber, written};
 ghost use Rattle.volumes.specs.Reader.{readAnswer, readNumber, readYears};
+ghost use Rattle.reigns.specs.Marked.{markedAnswer, markedNumber, markedMoons};
 
-pub mod fields;
-pub mod walks;
 pub mod years;
 
 #[no_mangle]
@@ -164,7 +163,7 @@ pub extern "C" fn xinghe_walk(
     let end = answer.values();
     let last = end.row;
     *out = last.fields();
-    *totals = walks::totals_fields(end);
+    *totals = fields::walks::totals_fields(end);
     answer.number()
 }
 
@@ -211,5 +210,15 @@ pub extern "C" fn xinghe_read_volume(volume: &[u8], years: &mut [u64; 2]) -> u64
 {
     let answer = volumes::reader::read(volume);
     *years = answer.years();
+    answer.number()
+}
+
+// The marked new moons and the marked full moons from one year of a volume to another.
+#[no_mangle]
+pub extern "C" fn xinghe_marked(volume: &[u8], from: u64, to: u64, moons: &mut [u64; 2]) -> u64
+    ensures { λ r. ⌜ (r ≡ markedNumber (markedAnswer (now (volume .entry)) from to)) × (now (moons .exit) ≡ markedMoons (markedAnswer (now (volume .entry)) from to)) ⌝ }
+{
+    let answer = reigns::marked(volume, from, to);
+    *moons = answer.moons();
     answer.number()
 }

@@ -22,6 +22,8 @@ pub struct Inputs {
     /// The first years of volumes, and the volumes.
     pub first_years: Vec<u64>,
     pub volumes: Vec<Volume>,
+    /// A volume by its index, and a first and a last year within it.
+    pub spans: Vec<(usize, u64, u64)>,
 }
 
 /// The years of a volume.
@@ -94,6 +96,14 @@ impl Random {
         1 + self.below(fast::ROUND_YEARS - VOLUME_YEARS + 1)
     }
 
+    /// Of any of the volumes.
+    fn span(&mut self, first_years: &[u64]) -> (usize, u64, u64) {
+        let volume = self.below(first_years.len() as u64) as usize;
+        let (one, other) = (self.below(VOLUME_YEARS), self.below(VOLUME_YEARS));
+        let first = first_years[volume];
+        (volume, first + one.min(other), first + one.max(other))
+    }
+
     /// Steps of up to a million months either way; a few lead outside.
     fn walk(&mut self) -> (Row, Vec<i64>) {
         let counts = (0..STEPS).map(|_| self.below(2_000_001) as i64 - 1_000_000);
@@ -130,6 +140,7 @@ impl Inputs {
             planets: some(COUNT, || random.planet()),
             labels: some(COUNT, || random.label()),
             volumes: first_years.iter().map(volume).collect(),
+            spans: some(COUNT, || volumes_random.span(&first_years)),
             first_years,
         }
     }

@@ -217,6 +217,32 @@ fn volumes(inputs: &Inputs) -> [Line; 2] {
     ]
 }
 
+fn reigns(inputs: &Inputs) -> [Line; 2] {
+    let library = |&(volume, from, to): &(usize, u64, u64), out: &mut _| {
+        let volume = &inputs.volumes[volume];
+        // SAFETY: pointer and length are those of an array.
+        unsafe { raw::xinghe_marked(volume.as_ptr(), volume.len(), from, to, out) }
+    };
+    [
+        measure(
+            "marked moons of a span",
+            &inputs.spans,
+            [0; 2],
+            library,
+            |&(volume, from, to), out| fast::marked(&inputs.volumes[volume], from, to, out),
+        ),
+        measure(
+            "the same, in Rust too with products of 16 bits",
+            &inputs.spans,
+            [0; 2],
+            library,
+            |&(volume, from, to), out| {
+                fast::marked_by_halves(&inputs.volumes[volume], from, to, out)
+            },
+        ),
+    ]
+}
+
 fn main() {
     let inputs = Inputs::new();
     println!("| job | library, ns per call | Rust, ns per call | library / Rust |");
@@ -232,6 +258,7 @@ fn main() {
     planets(&inputs).iter().for_each(Line::print);
     names(&inputs).iter().for_each(Line::print);
     volumes(&inputs).iter().for_each(Line::print);
+    reigns(&inputs).iter().for_each(Line::print);
     let survey = survey::measure();
     survey.print();
     println!();

@@ -31,6 +31,8 @@ pub enum Refusal {
 impl Refusal {
     /// A span in the wrong order has the place's number.
     pub const ORDER: Self = Self::Place;
+    /// So have years that are not in the volume, or in the wrong order.
+    pub const NOT_IN_VOLUME: Self = Self::Place;
 }
 
 pub fn year(number: u64) -> Result<Year, Refusal> {

@@ -9,6 +9,8 @@ pub type Block = [u8; BLOCK];
 
 /// Room for the longest year.
 const RECORDS: usize = 13;
+/// What stands before the totals: the year's own fields and its records.
+const BEFORE_TOTALS: usize = 216;
 /// The zeros between the totals and the check.
 const ZEROS: usize = 282;
 /// The bytes that the check is over; its own two come after them.
@@ -32,6 +34,30 @@ impl Totals {
             self.new_moons += u32::from(month.new_moon_node.eclipse.marked);
             self.full_moons += u32::from(month.full_moon_node.eclipse.marked);
         }
+    }
+
+    /// Those of a block with a right check, whatever else it says.
+    pub fn take_up(block: &Block) -> Option<Self> {
+        let mut bytes = Bytes { rest: block };
+        bytes.taken::<BEFORE_TOTALS>();
+        let totals = bytes.totals();
+        bytes.taken::<ZEROS>();
+        bytes.told_check_is_right(block).then_some(totals)
+    }
+
+    /// What was counted after other totals; nothing where one of the three has
+    /// fallen.
+    pub fn after(&self, earlier: &Self) -> Option<Self> {
+        Some(Self {
+            leaps: self.leaps.checked_sub(earlier.leaps)?,
+            new_moons: self.new_moons.checked_sub(earlier.new_moons)?,
+            full_moons: self.full_moons.checked_sub(earlier.full_moons)?,
+        })
+    }
+
+    /// The marked new moons and the marked full moons.
+    pub fn marked(&self) -> (u64, u64) {
+        (u64::from(self.new_moons), u64::from(self.full_moons))
     }
 }
 
@@ -119,15 +145,9 @@ impl Page {
         for record in &mut records {
             *record = bytes.record()?;
         }
-        let totals = Totals {
-            leaps: bytes.wide(),
-            new_moons: bytes.wide(),
-            full_moons: bytes.wide(),
-        };
+        let totals = bytes.totals();
         bytes.zeros::<ZEROS>()?;
-        let told = u16::from_le_bytes(bytes.taken());
-        assert!(bytes.rest.is_empty(), "the fields end before the block");
-        (told == check(&block[..CHECKED])).then_some(Self {
+        bytes.told_check_is_right(block).then_some(Self {
             year,
             months,
             leap_place,
@@ -157,6 +177,21 @@ impl Bytes<'_> {
         (self.taken() == [0; COUNT]).then_some(())
     }
 
+    fn totals(&mut self) -> Totals {
+        Totals {
+            leaps: self.wide(),
+            new_moons: self.wide(),
+            full_moons: self.wide(),
+        }
+    }
+
+    /// The last two bytes of the block.
+    fn told_check_is_right(&mut self, block: &Block) -> bool {
+        let told = u16::from_le_bytes(self.taken());
+        assert!(self.rest.is_empty(), "the fields end before the block");
+        told == check(&block[..CHECKED])
+    }
+
     fn record(&mut self) -> Option<Record> {
         let (lunation, day, remainder) = (self.wide(), self.wide(), self.wide());
         let [length, number, leap] = self.taken();
@@ -170,6 +205,11 @@ impl Bytes<'_> {
             leap,
         })
     }
+}
+
+/// The first four bytes, whatever number they make.
+pub fn year_named(block: &Block) -> u32 {
+    Bytes { rest: block }.wide()
 }
 
 /// Byte i counts i + 1 times. Going backwards, a sum of the bytes so far is added

@@ -9,6 +9,7 @@ use crate::instants::Cut;
 use crate::name_cases;
 use crate::numbers::CHAPTER_YEARS;
 use crate::planet_cases;
+use crate::reign_cases;
 use crate::sixty;
 use crate::volume_cases;
 use crate::walker::Month;
@@ -78,6 +79,7 @@ fn edge_lines() -> Vec<String> {
     lines.extend(planet_cases::lines());
     lines.extend(name_cases::lines());
     lines.extend(volume_cases::lines());
+    lines.extend(reign_cases::lines());
     lines
 }
 

@@ -8,7 +8,8 @@
 //! correction is made up of doublings. The planets are walked from conjunction to
 //! conjunction; their stages are read from the printed text ([`stage_text`]), and
 //! the days of the sixty are counted on one by one ([`sixty`]). A volume's totals
-//! are counted mark by mark, and its blocks are read field by field ([`blocks`]).
+//! are counted mark by mark, and its blocks are read field by field ([`blocks`]); the
+//! years of a reign are found by counting on through the volume ([`reigns`]).
 //! [`Walker`] yields the round a year at a time, [`Checkpoints`] finds a single
 //! year, month or day quickly by walking on from a kept state.
 
@@ -27,6 +28,8 @@ pub mod numerals;
 pub mod planet_cases;
 pub mod planets;
 pub mod printer;
+pub mod reign_cases;
+pub mod reigns;
 pub mod sixty;
 pub mod spans;
 pub mod stage_text;

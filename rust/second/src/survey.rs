@@ -5,6 +5,7 @@ use std::io::{self, Write};
 use crate::blocks::Totals;
 use crate::digest::Digest;
 use crate::numbers::{ERAS, ERA_YEARS};
+use crate::reigns;
 use crate::volumes;
 use crate::walker::{Walker, Year};
 
@@ -42,7 +43,8 @@ impl Counts {
     fn line(&self, title: &str, digests: &Digests) -> String {
         let leaps = self.leaps[1..].iter().map(u64::to_string);
         format!(
-            "{title} months {} long {} leaps {} new {} full {} digest {} planets {} volume {}\n",
+            "{title} months {} long {} leaps {} new {} full {} digest {} planets {} volume {} \
+             marked {}\n",
             self.months,
             self.long,
             leaps.collect::<Vec<_>>().join(" "),
@@ -50,19 +52,22 @@ impl Counts {
             self.full_moons,
             digests.months.value(),
             digests.planets.value(),
-            digests.volume.value()
+            digests.volume.value(),
+            digests.marked.value()
         )
     }
 }
 
-/// The planets and the volume have digests of their own, beside that of all the
-/// others.
+/// The planets, the volume and the marked moons have digests of their own, beside
+/// that of all the others.
 #[derive(Default)]
 struct Digests {
     months: Digest,
     planets: Digest,
     /// The blocks of the years in the volume of the whole round.
     volume: Digest,
+    /// How many new moons and how many full moons of each year are marked.
+    marked: Digest,
 }
 
 impl Digests {
@@ -72,12 +77,16 @@ impl Digests {
         self.planets.feed_conjunctions(year);
         let page = volumes::bind(totals, year);
         self.volume.feed_block(&page.put_down());
+        let (new_moons, full_moons) = reigns::marks(year);
+        self.marked.feed(new_moons);
+        self.marked.feed(full_moons);
     }
 
     fn add(&mut self, other: &Self) {
         self.months.feed_digest(&other.months);
         self.planets.feed_digest(&other.planets);
         self.volume.feed_digest(&other.volume);
+        self.marked.feed_digest(&other.marked);
     }
 }
 

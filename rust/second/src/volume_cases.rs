@@ -6,11 +6,11 @@ use crate::digest::Digest;
 use crate::volumes;
 
 /// The bytes of the buffer, room for four years.
-const BUFFER: usize = 2_048;
+pub const BUFFER: usize = 2_048;
 /// Every byte of the buffer before it is lent to the writer.
 const LENT: u8 = 165;
 /// A place at which no byte is altered.
-const WHOLE: usize = BUFFER;
+pub const WHOLE: usize = BUFFER;
 
 /// First year, last year, bytes lent.
 type Writing = (u64, u64, usize);
@@ -109,13 +109,21 @@ fn write((first, last, room): Writing) -> String {
     numbered_line(format!("write {first} {last} {room}"), answer)
 }
 
-/// The years of the first so many bytes, after one byte was altered.
-fn read((first, last, at, byte, length): Reading) -> String {
+/// A buffer of zeros, the volume at its front, where the writer gives one, and one
+/// byte altered.
+pub fn altered(first: u64, last: u64, at: usize, byte: u8) -> [u8; BUFFER] {
     let mut buffer = [0; BUFFER];
-    volumes::write(first, last, &mut buffer).expect("a volume of four years or less");
+    // Refused, the buffer stays as it was.
+    let _ = volumes::write(first, last, &mut buffer);
     if let Some(altered) = buffer.get_mut(at) {
         *altered = byte;
     }
+    buffer
+}
+
+/// The years of the first so many bytes, after one byte was altered.
+fn read((first, last, at, byte, length): Reading) -> String {
+    let buffer = altered(first, last, at, byte);
     let answer = volumes::read(&buffer[..length]);
     let answer = answer.map(|(first, last)| format!("{first} {last}"));
     let question = format!("read {first} {last} {at} {byte} {length}");

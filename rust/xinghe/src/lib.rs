@@ -1,13 +1,14 @@
 //! The Xinghe calendar, as `rt staticlib xinghe` makes it, for Rust.
 //!
 //! Every function takes any numbers whatever. `Err` holds the number under
-//! which the library refuses: 1 the year, 2 the place or a span in the wrong
-//! order, 3 the day of the month or of the sixty, 4 a row that is not genuine, 5 a
-//! carry out of the round, 6 a list or buffer too short, 7 the day number, 8 the
-//! cut or its point, 9 the planet, 10 two lists of names of which neither is 360
-//! bytes, 11 a volume that is empty or no whole number of blocks, 12 a block that
-//! is not what the writer gives. include/xinghe.h says what each value means; the
-//! arrays here are in its order.
+//! which the library refuses: 1 the year, 2 the place, a span in the wrong order or
+//! with years that are not in the volume, 3 the day of the month or of the sixty, 4 a
+//! row that is not genuine, 5 a carry out of the round, 6 a list or buffer too short,
+//! 7 the day number, 8 the cut or its point, 9 the planet, 10 two lists of names of
+//! which neither is 360 bytes, 11 a volume that is empty or no whole number of blocks,
+//! 12 a block that is not what the writer gives, or of those that [`marked`] looks at
+//! one with a wrong check or totals that have fallen. include/xinghe.h says what each
+//! value means; the arrays here are in its order.
 
 mod raw;
 
@@ -46,6 +47,13 @@ pub struct Stages {
     pub count: u64,
     /// Ten numbers of each, in order; zeros past the count.
     pub stages: [[u64; 10]; 14],
+}
+
+/// The moons of a span of years at which an eclipse is marked.
+#[derive(Clone, Copy, Debug, PartialEq, Eq)]
+pub struct Marked {
+    pub new_moons: u64,
+    pub full_moons: u64,
 }
 
 fn answer<const LENGTH: usize>(
@@ -184,6 +192,29 @@ pub fn read_volume(volume: &[u8]) -> Answer<[u64; 2]> {
     answer(|years| {
         // SAFETY: as in `fill_year`; the volume is only read.
         unsafe { raw::xinghe_read_volume(volume.as_ptr(), volume.len(), years) }
+    })
+}
+
+/// The marked moons of the years from one of a volume to another, both included, by
+/// the totals in one or two of its blocks. The volume is not read beyond its first
+/// four bytes and these: [`read_volume`] tells whether it is what [`write_volume`]
+/// writes, and then this is the count of every month.
+///
+/// ```
+/// let mut volume = [0; 3 * xinghe::BLOCK];
+/// xinghe::write_volume(293_996, 293_998, &mut volume).unwrap();
+/// let marked = xinghe::marked(&volume, 293_997, 293_997).unwrap();
+/// assert_eq!((marked.new_moons, marked.full_moons), (2, 3));
+/// assert_eq!(xinghe::marked(&volume, 293_997, 293_999), Err(2));
+/// ```
+pub fn marked(volume: &[u8], from: u64, to: u64) -> Answer<Marked> {
+    let [new_moons, full_moons] = answer(|moons| {
+        // SAFETY: as in `fill_year`; the volume is only read.
+        unsafe { raw::xinghe_marked(volume.as_ptr(), volume.len(), from, to, moons) }
+    })?;
+    Ok(Marked {
+        new_moons,
+        full_moons,
     })
 }
 

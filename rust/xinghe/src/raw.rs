@@ -57,4 +57,13 @@ unsafe extern "C" {
 
     /// `volume` points to `length` bytes, and is not null.
     pub fn xinghe_read_volume(volume: *const u8, length: usize, years: &mut [u64; 2]) -> u64;
+
+    /// `volume` points to `length` bytes, and is not null.
+    pub fn xinghe_marked(
+        volume: *const u8,
+        length: usize,
+        from: u64,
+        to: u64,
+        moons: &mut [u64; 2],
+    ) -> u64;
 }

@@ -13,6 +13,7 @@ mod moon;
 mod names;
 mod node;
 mod planets;
+mod reigns;
 mod rows;
 mod stages;
 mod volumes;
@@ -173,4 +174,16 @@ pub fn write_volume(first: u64, last: u64, out: &mut [u8], count: &mut [u64; 1])
 #[inline(never)]
 pub fn read_volume(volume: &[u8], years: &mut [u64; 2]) -> u64 {
     written(volumes::read(volume), years)
+}
+
+#[inline(never)]
+pub fn marked(volume: &[u8], from: u64, to: u64, moons: &mut [u64; 2]) -> u64 {
+    written(reigns::marked(volume, from, to, reigns::weighted), moons)
+}
+
+/// The check of a block by its halves, with products of 16 bits.
+#[inline(never)]
+pub fn marked_by_halves(volume: &[u8], from: u64, to: u64, moons: &mut [u64; 2]) -> u64 {
+    let marked = reigns::marked(volume, from, to, reigns::weighted_by_halves);
+    written(marked, moons)
 }

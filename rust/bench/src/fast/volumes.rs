@@ -9,9 +9,9 @@ pub type Block = [u8; BLOCK];
 
 const RECORDS_AT: usize = 8;
 const RECORD: usize = 16;
-const TOTALS_AT: usize = 216;
-const CHECK_AT: usize = 510;
-const PRIME: u32 = 65_521;
+pub const TOTALS_AT: usize = 216;
+pub const CHECK_AT: usize = 510;
+pub const PRIME: u32 = 65_521;
 
 /// What moves from year to year of a volume.
 struct Volume {

@@ -70,7 +70,7 @@ fn some_volumes(random: &mut Random) -> Vec<Genuine> {
 }
 
 /// Bytes at random, often in the fields, the totals or the check.
-fn alter_bytes(random: &mut Random, bytes: &mut [u8], count: u64) {
+pub fn alter_bytes(random: &mut Random, bytes: &mut [u8], count: u64) {
     for _ in 0..count {
         let block = random.below((bytes.len() / BLOCK) as u64) as usize;
         let within = match random.below(4) {
@@ -83,7 +83,7 @@ fn alter_bytes(random: &mut Random, bytes: &mut [u8], count: u64) {
     }
 }
 
-fn exchange_blocks(random: &mut Random, bytes: &mut [u8]) {
+pub fn exchange_blocks(random: &mut Random, bytes: &mut [u8]) {
     let count = (bytes.len() / BLOCK) as u64;
     let mut place = || random.below(count) as usize * BLOCK;
     let (one, other) = (place(), place());

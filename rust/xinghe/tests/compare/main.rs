@@ -1,6 +1,6 @@
 //! The library is compared with the independent second program. What is
 //! expected are that program's walked answers; nothing here works out a row, a
-//! node, a correction, a conjunction, a name or a block.
+//! node, a correction, a conjunction, a name, a block or a count of marked moons.
 
 // The crate keeps its declarations to itself; `sentinels` needs them to see
 // what is written where a call is refused.
@@ -14,6 +14,9 @@ mod labels;
 mod lists;
 mod planets;
 mod random;
+mod reign_damages;
+mod reign_outcomes;
+mod reigns;
 mod round;
 mod sentinels;
 mod single;

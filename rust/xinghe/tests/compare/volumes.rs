@@ -10,10 +10,10 @@ use crate::random::Random;
 use crate::raw;
 use crate::tally::Tally;
 
-const SENTINEL: u8 = 0xa5;
+pub const SENTINEL: u8 = 0xa5;
 /// Bytes before and behind the lent part, which so begins at an odd place.
 const MARGIN: usize = 61;
-const OTHER: u64 = 0x1234_5678_9abc_def1;
+pub const OTHER: u64 = 0x1234_5678_9abc_def1;
 
 /// First and last years: both ends of the round, heads of eras, a chapter, and
 /// 1,024 years at either end and about a head.

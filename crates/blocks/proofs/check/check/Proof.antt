@@ -1,72 +1,15 @@
-use native.Mathlib.Omega.{arith}
-use mathlib.Core.Path.{_≡_, refl}
-use Prim.Native.Nat.{_+_, _-_, _*_, _≤_}
-use lib.ListN.{length, take, getD}
-use lib.Seq.{take-all}
+use mathlib.Core.Path.{ap}
+use Prim.Native.Nat.{ℕ, _%_}
 use borrow.Author.Needs.{needs}
-use Rattle.blocks.specs.Check.{weighted}
-use Rattle.blocks.proofs.Sums.{sum-more}
+use Rattle.blocks.specs.Check.{modulus}
 use Rattle.blocks.proofs.check.check.Statement.{statement}
 use Rattle.blocks.proofs.check.check.Tie as tie
 
-abbrev Inv-loop : tie.InvT-loop
-Inv-loop bytes sum₀ weight₀ i₀ sum weight i = (i ≤ length bytes) × (sum ≡ weighted 0 (take i bytes)) × (sum ≤ 65535 * i) × (weight ≡ i + 1)
+weigh-requires : tie.Need-weigh-requires
+weigh-requires c κs = search needs
 
-abbrev μ-loop : tie.MeasureT-loop
-μ-loop bytes sum₀ weight₀ i₀ sum weight i = length bytes - i
-
-loop-holds : tie.Need-loop-holds Inv-loop μ-loop
-unfolding weighted
-loop-holds c = (omega arith, refl, omega arith, refl)
-
-shared-slice-read-term : tie.Need-shared-slice-read-term Inv-loop μ-loop
-shared-slice-read-term c = search needs
-
-term-requires : tie.Need-term-requires Inv-loop μ-loop
-term-requires c κs = omega arith
-
-cast-sum : tie.Need-cast-sum Inv-loop μ-loop
-cast-sum c = omega arith
-
-add-sum : tie.Need-add-sum Inv-loop μ-loop
-add-sum c = omega arith
-
-add-weight : tie.Need-add-weight Inv-loop μ-loop
-add-weight c = omega arith
-
-add-i : tie.Need-add-i Inv-loop μ-loop
-add-i c = omega arith
-
-loop-less : tie.Need-loop-less Inv-loop μ-loop
-loop-less c = omega arith
-
-loop-again : tie.Need-loop-again Inv-loop μ-loop
-loop-again c =
-    let l = c .before .before .before .loop in
-    let x = c .before .before .before .before .before .args in
-    let t : c .term .result ≡ (l .i + 1) * getD (x .bytes .now) (l .i) 0 = rw (← (l .inv .3)) (c .term .ensures) in
-    (omega arith, omega (arith, sum-more (x .bytes .now) (l .i) (omega arith)), omega arith, omega arith)
-
-returns : tie.Need-returns Inv-loop μ-loop
-returns c =
-    let l = c .before .loop in
-    let x = c .before .before .before .args in
-    let all : take (l .i) (x .bytes .now) ≡ x .bytes .now = take-all (l .i) (x .bytes .now) (c .loop-test .left) in
-    rw (l .inv .1, all)
+returns : tie.Need-returns
+returns c = ap (λ (sum : ℕ). sum % modulus) (c .weigh .ensures .0)
 
 pub check-spec : {M : Type 1} → statement M
-check-spec =
-    tie.close
-    (tie.spec
-    Inv-loop
-    μ-loop
-    loop-holds
-    shared-slice-read-term
-    term-requires
-    cast-sum
-    add-sum
-    add-weight
-    add-i
-    loop-less
-    loop-again
-    returns)
+check-spec = tie.close (tie.spec weigh-requires returns)
