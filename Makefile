@@ -1,6 +1,7 @@
-.PHONY: test year head head-rust day volume bench
+.PHONY: test year head head-rust day volume mend bench
 
-# The year or the date to print, the years of a volume. It is anybody's text: make
+# The year or the date to print, the years of a volume, the file of a scratched one
+# and that of the mended. It is anybody's text: make
 # takes it as it was given, and a recipe gets it by the environment, so that
 # neither make nor the shell runs it.
 YEAR ?= 293997
@@ -8,12 +9,16 @@ PLACE ?= 0
 DAY ?= 1
 FIRST ?= 293996
 LAST ?= 293998
+SCRATCHED ?= scratched
+MENDED ?= mended
 override YEAR := $(value YEAR)
 override PLACE := $(value PLACE)
 override DAY := $(value DAY)
 override FIRST := $(value FIRST)
 override LAST := $(value LAST)
-export YEAR PLACE DAY FIRST LAST
+override SCRATCHED := $(value SCRATCHED)
+override MENDED := $(value MENDED)
+export YEAR PLACE DAY FIRST LAST SCRATCHED MENDED
 
 library = target/staticlib/libxinghe.a
 sources := $(shell find crates -name '*.rt' -o -name '*.antt') crates.txt
@@ -55,6 +60,18 @@ volume:
 	@$(need_rt)
 	@$(call quietly,rt check volume_writer,volume.log)
 	@printf '%s %s\n' "$$FIRST" "$$LAST" | target/bin/volume_writer
+
+# The volume in the file SCRATCHED, mended and written to the file MENDED; the indices
+# of its damaged blocks and their number are printed. What the mending program writes
+# is taken apart by the length of the volume, which is that of the scratched one.
+# Refused, MENDED isn't written.
+mend:
+	@$(need_rt)
+	@$(call quietly,rt check mend,mend.log)
+	@target/bin/mend <"$$SCRATCHED" >target/mend.out || exit 1; \
+	case "$$(head -n 1 target/mend.out)" in refused*) cat target/mend.out; exit 1;; esac; \
+	bytes=$$(($$(wc -c <"$$SCRATCHED"))); \
+	tail -c "$$bytes" target/mend.out >"$$MENDED" && head -c "-$$bytes" target/mend.out
 
 $(library): $(sources)
 	@$(need_rt)

@@ -3,8 +3,9 @@
  * Every function takes any numbers whatever. It returns 0 where it answers and
  * writes its values to the arrays that the caller lends. Where it refuses it
  * returns one of the numbers below and writes zeros; xinghe_fill_year writes
- * nothing then, and xinghe_write_volume nothing to its buffer. The lowest
- * number that applies is returned; only xinghe_marked asks for 11 before 2.
+ * nothing then, and xinghe_write_volume and xinghe_mend nothing to the buffer,
+ * volume or list that they work on. The lowest number that applies is returned;
+ * only xinghe_marked asks for 11 before 2.
  *
  * number returned     given exactly when
  *   0                 answered
@@ -23,12 +24,16 @@
  *   8                 the cut is not 24, 60 or 72, or the point not below it
  *   9                 the planet is outside 1 to 5
  *  10                 neither list of day names is 360 bytes
- *  11                 the volume is empty or no whole number of blocks
+ *  11                 the volume is empty or no whole number of blocks; for
+ *                     xinghe_mend, also if it has more than 1,024 of them
  *  12                 a block of the volume has a wrong check or is not what
  *                     the writer gives for its place and the first block's year;
  *                     for xinghe_marked, a block that it looks at has a wrong
  *                     check, or a total of the later one is below that of the
  *                     earlier
+ *  13                 the first year of a volume to be mended is not known: no
+ *                     block is sound, sound ones imply different first years,
+ *                     or the implied run leaves the round
  *
  * Years are written from 1. A place is a month's index in its year, from 0;
  * place 0 is the eleventh month. Days are counted from the origin, from 0; day 0
@@ -69,7 +74,8 @@ enum {
     XINGHE_PLANET = 9,
     XINGHE_NAMES = 10,
     XINGHE_VOLUME = 11,
-    XINGHE_BLOCK = 12
+    XINGHE_BLOCK = 12,
+    XINGHE_FIRST_YEAR = 13
 };
 
 /* How many numbers the row of a month has. */
@@ -77,6 +83,9 @@ enum { XINGHE_ROW_NUMBERS = 13 };
 
 /* How many bytes the block of a year has in a volume. */
 enum { XINGHE_BLOCK_BYTES = 512 };
+
+/* How many blocks a volume to be mended has at the most. */
+enum { XINGHE_MOST_BLOCKS = 1024 };
 
 /* A year's head. Refused: 1.
  * out[0]  months of the round before the year: those before the month whose
@@ -301,6 +310,20 @@ uint64_t xinghe_read_volume(const uint8_t *volume, size_t length,
  * moons[1]  marked full moons */
 uint64_t xinghe_marked(const uint8_t *volume, size_t length, uint64_t from,
                        uint64_t to, uint64_t moons[2]);
+
+/* Mends a scratched volume of `length` bytes where it is. A block is sound if its
+ * check is right and its year is 1 to 1,011,600, whatever else it holds; the
+ * volume's first year is the year of any sound block less its index. Each block
+ * that is not, byte for byte, what xinghe_write_volume writes at its place in the
+ * volume from that year on is written afresh, a sound one too. The mended volume
+ * is one that xinghe_read_volume answers. Refused: 11 (also more than 1,024
+ * blocks), 13 (no block is sound, sound ones imply different first years, or the
+ * run leaves the round); then the volume and the list stay as they were.
+ * damaged   the indices from 0, ascending, of the blocks that were written
+ *           afresh, at its front; the rest of it stays as it was
+ * count[0]  how many they are */
+uint64_t xinghe_mend(uint8_t *volume, size_t length,
+                     uint64_t damaged[XINGHE_MOST_BLOCKS], uint64_t count[1]);
 
 #ifdef __cplusplus
 }

@@ -1,5 +1,6 @@
 // Refusals and edges: the first and last values that each question answers, and the first that it refuses.
 use crate::lists;
+use crate::mending_edges;
 use crate::name_edges;
 use crate::planet_edges;
 use crate::questions;
@@ -20,6 +21,7 @@ pub fn ask_edges() {
     name_edges::ask_names();
     volume_edges::ask_volumes();
     reign_edges::ask_reigns();
+    mending_edges::ask_mending();
 }
 
 fn ask_years_and_places() {

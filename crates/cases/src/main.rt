@@ -2,6 +2,7 @@
 mod edges;
 mod fields;
 mod lists;
+mod mending_edges;
 mod name_edges;
 mod planet_edges;
 mod questions;

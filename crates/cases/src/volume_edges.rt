@@ -8,7 +8,7 @@ ghost use Prim.Native.Nat.{_≤_};
 ghost use lib.ListN.{length};
 
 // The bytes of the buffer, room for four years.
-const BUFFER: usize = 2048;
+pub const BUFFER: usize = 2048;
 
 // A place at which no byte is altered.
 pub const WHOLE: usize = BUFFER;

@@ -4,9 +4,11 @@ use walking::Sign;
 
 pub mod digest;
 
-// The longest line has 248 bytes and its end. What does not fit is left out, so that building a line asks nothing of its caller.
+// Room for the longest line, which has 276 bytes, and its end. What does not fit is left out, so that building a line asks nothing of its caller.
+const ROOM: usize = 288;
+
 pub struct Line {
-    pub bytes: [u8; 256],
+    pub bytes: [u8; ROOM],
     pub len: usize,
 }
 
@@ -19,14 +21,14 @@ fn send(bytes: &[u8], len: usize) {
 impl Line {
     pub fn new() -> Self {
         Self {
-            bytes: [0; 256],
+            bytes: [0; ROOM],
             len: 0,
         }
     }
 
     pub fn byte(mut self, byte: u8) -> Self {
         let at = self.len;
-        if at < 256 {
+        if at < ROOM {
             self.bytes[at] = byte;
             self.len = at + 1;
         }

@@ -4,7 +4,7 @@
 -- Assumes nothing.
 use Prim.Native.Nat.{ℕ}
 use Rattle.refusal.specs.declared.Refusal.{Refusal}
-use Rattle.refusal.specs.declared.Refusal.the-variants.{Year, Place, DayOfMonth, Row, Carry, List, Day, Cut, Planet, DayOfSixty, Names, Span, Room, Volume, Block}
+use Rattle.refusal.specs.declared.Refusal.the-variants.{Year, Place, DayOfMonth, Row, Carry, List, Day, Cut, Planet, DayOfSixty, Names, Span, Room, Volume, Block, FirstYear}
 
 abbrev pub numberOf : Refusal → ℕ
 numberOf Year = 1
@@ -22,3 +22,4 @@ numberOf Span = 2
 numberOf Room = 6
 numberOf Volume = 11
 numberOf Block = 12
+numberOf FirstYear = 13

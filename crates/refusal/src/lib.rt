@@ -29,10 +29,12 @@ pub enum Refusal {
     Span,
     // a lent buffer shorter than the volume
     Room,
-    // bytes that are no whole number of blocks, or none
+    // bytes that are no whole number of blocks, or none; to be mended, more blocks than that takes
     Volume,
     // a block with a wrong check, or not the writer's for its place and the first block's year; totals that fall from one block to another
     Block,
+    // a volume to be mended whose blocks tell no first year: none is sound, sound ones imply different first years, or the run leaves the round
+    FirstYear,
 }
 
 impl Refusal {
@@ -55,6 +57,7 @@ impl Refusal {
             Refusal::Room => 6,
             Refusal::Volume => 11,
             Refusal::Block => 12,
+            Refusal::FirstYear => 13,
         }
     }
 }

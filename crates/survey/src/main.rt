@@ -2,6 +2,7 @@
 // independent second program writes.
 mod counts;
 mod fields;
+mod mended;
 mod reign;
 mod volume;
 mod years;

@@ -1,28 +1,9 @@
 // The marked moons of every year, told from the volume of the whole round: from two of its blocks, as if all before them had been cut off.
+use crate::volume::PAIR;
+use crate::volume::put_block;
 use blocks::BLOCK;
 use lines::digest::Digest;
 use reigns::MarkedAnswer;
-ghost use mathlib.Core.Path.{_≡_};
-ghost use Prim.Native.Nat.{_+_, _≤_};
-ghost use lib.ListN.{length};
-
-// How many bytes two blocks have.
-const PAIR: usize = 2 * BLOCK;
-
-// The year's block in the volume that begins with the round, from a place of the buffer on.
-fn put_block(out: &mut [u8], at: usize, year: u64)
-    requires { ⌜ at + 512 ≤ length (now out) ⌝ }
-    ensures { λ _. ⌜ length (now (out .exit)) ≡ length (now (out .entry)) ⌝ }
-{
-    if volumes::is_run(1, year) {
-        let block = volumes::block(1, year);
-        let mut i = 0;
-        while i < BLOCK {
-            out[at + i] = block[i];
-            i += 1;
-        }
-    }
-}
 
 fn feed_moons(digest: Digest, answer: MarkedAnswer) -> Digest {
     let moons = answer.moons();

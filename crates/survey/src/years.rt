@@ -1,6 +1,7 @@
 // Every question of the calendar, asked of every month and year of an era.
 use crate::counts::Counts;
 use crate::fields;
+use crate::mended;
 use crate::reign;
 use crate::volume;
 use lines::Line;
@@ -17,6 +18,7 @@ pub struct Survey {
     pub planets: Digest,
     pub volume: Digest,
     pub marked: Digest,
+    pub mended: Digest,
 }
 
 impl Survey {
@@ -26,12 +28,14 @@ impl Survey {
         let planets = Digest::new();
         let volume = Digest::new();
         let marked = Digest::new();
+        let mended = Digest::new();
         Self {
             counts,
             digest,
             planets,
             volume,
             marked,
+            mended,
         }
     }
 
@@ -50,12 +54,14 @@ impl Survey {
         let planets = self.planets;
         let volume = self.volume;
         let marked = self.marked;
+        let mended = self.mended;
         Self {
             counts,
             digest,
             planets,
             volume,
             marked,
+            mended,
         }
     }
 
@@ -78,12 +84,14 @@ impl Survey {
         let planets = feed_planets(self.planets, year);
         let volume = volume::feed_block(self.volume, year);
         let marked = reign::feed_marked(self.marked, year);
+        let mended = mended::feed_mended(self.mended, year);
         Self {
             counts,
             digest,
             planets,
             volume,
             marked,
+            mended,
         }.months(year, head.months, ganzhi)
     }
 
@@ -104,12 +112,16 @@ impl Survey {
         let round_marked = self.marked;
         let era_marked = era.marked;
         let marked = round_marked.feed_digest(era_marked);
+        let round_mended = self.mended;
+        let era_mended = era.mended;
+        let mended = round_mended.feed_digest(era_mended);
         Self {
             counts,
             digest,
             planets,
             volume,
             marked,
+            mended,
         }
     }
 
@@ -119,6 +131,7 @@ impl Survey {
         let planets = self.planets;
         let volume = self.volume;
         let marked = self.marked;
+        let mended = self.mended;
         counts
             .on_line(title)
             .text(b" digest")
@@ -129,6 +142,8 @@ impl Survey {
             .number(volume.value())
             .text(b" marked")
             .number(marked.value())
+            .text(b" mended")
+            .number(mended.value())
             .write();
     }
 }

@@ -68,7 +68,7 @@ module _ (bytes : List ℕ) (first last i b : ℕ) (read : readAnswer bytes ≡ 
       )
 
 -- a list with the byte of another at a place, where the two agree at all others
-one-place : (xs ys : List ℕ) (i : ℕ) → length ys ≡ length xs → i < length xs → ((k : ℕ) → ¬ (k ≡ i) → getD ys k 0 ≡ getD xs k 0) → ys ≡ set xs i (getD ys i 0)
+pub one-place : (xs ys : List ℕ) (i : ℕ) → length ys ≡ length xs → i < length xs → ((k : ℕ) → ¬ (k ≡ i) → getD ys k 0 ≡ getD xs k 0) → ys ≡ set xs i (getD ys i 0)
 one-place xs ys i e h same =
     let v = getD ys i 0 in
     ext-getD 0 ys (set xs i v) (e ∙ sym (length-set xs i v))

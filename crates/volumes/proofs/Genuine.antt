@@ -17,9 +17,9 @@ use Rattle.units.specs.Xinghe.{isYear}
 use Rattle.blocks.specs.Bytes.{value32, same}
 use Rattle.blocks.specs.Check.{rightCheck}
 use Rattle.blocks.proofs.Same.{same-eq, same-refl}
-use Rattle.volumes.specs.Volume.{blockAt, blockIn}
+use Rattle.volumes.specs.Volume.{isRun, blockAt, blockIn}
 use Rattle.volumes.specs.Reader.{wholeBlocks, blockCount, firstYear, genuineAt, readAnswer}
-use Rattle.volumes.specs.Stream.{isRun, held, readOn, readerAfter, readThrough, ended, finished}
+use Rattle.volumes.specs.Stream.{held, readOn, readerAfter, readThrough, ended, finished}
 use Rattle.volumes.specs.declared.reader.ReadAnswer.{ReadAnswer}
 use Rattle.volumes.specs.declared.reader.Reader.{Reader}
 use Rattle.volumes.proofs.Runs.{run-of, is-run, year-in, year-low, year-high}

@@ -14,8 +14,7 @@ use Rattle.units.specs.Xinghe.{roundYears, isYear}
 use Rattle.totals.specs.Totals.{totals}
 use Rattle.blocks.specs.Block.{blockOf}
 use Rattle.blocks.proofs.Blocks.{block-length}
-use Rattle.volumes.specs.Volume.{Run, blockAt, blocks}
-use Rattle.volumes.specs.Stream.{isRun}
+use Rattle.volumes.specs.Volume.{Run, isRun, blockAt, blocks}
 
 -- a year of the round
 pub year-in : (n : ℕ) → 1 ≤ n → n ≤ roundYears → T (isYear n)

@@ -1,23 +1,18 @@
 -- The reader as the program carries it from block to block, so that a volume of any length needs no more memory than one. What a volume's answer is,
 -- is defined without this.
 -- Assumes nothing.
-use mathlib.Core.Bool.{Bool, _&&_}
+use mathlib.Core.Bool.{_&&_}
 use mathlib.Core.List.{List}
 use Prim.Native.Nat.{ℕ, zero, suc, _+_, _-_}
-use lib.Dec.{leb, eqb}
+use lib.Dec.{eqb}
 use Rattle.reckoning.specs.Search.{pick, all}
 use Rattle.refusal.specs.declared.Refusal.{Refusal}
-use Rattle.units.specs.Xinghe.{isYear}
 use Rattle.blocks.specs.Bytes.{value32, same}
 use Rattle.volumes.specs.Volume.{blockAt}
-use Rattle.volumes.specs.Volume.{blockIn}
+use Rattle.volumes.specs.Volume.{isRun, blockIn}
 use Rattle.volumes.specs.Reader.{firstYear, genuineAt}
 use Rattle.volumes.specs.declared.reader.ReadAnswer.{ReadAnswer}
 use Rattle.volumes.specs.declared.reader.Reader.{Reader}
-
--- the years from one to another are a run of the round's
-unfoldable pub isRun : ℕ → ℕ → Bool
-isRun first year = isYear first && (isYear year && leb first year)
 
 -- the state after a block that has to be that of a year in the volume from a first year on
 unfoldable pub held : ℕ → ℕ → List ℕ → Reader

@@ -8,14 +8,14 @@ ghost use lib.Dec.{T};
 ghost use lib.ListN.{length};
 ghost use Rattle.units.specs.Xinghe.{isYear};
 ghost use Rattle.totals.specs.Totals.{totals};
-ghost use Rattle.volumes.specs.Volume.{blockAt};
+ghost use Rattle.volumes.specs.Volume.{isRun, blockAt};
 ghost use Rattle.volumes.specs.Reader.{wholeBlocks};
-ghost use Rattle.volumes.specs.Stream.{isRun};
 
 pub mod reader;
 pub mod writer;
 
-fn is_year(n: u64) -> bool
+// Whether the round has that year.
+pub fn is_year(n: u64) -> bool
     ensures { λ r. ⌜ r ≡ isYear n ⌝ }
 {
     (1 <= n) & (n < Xinghe::YEARS + 1)

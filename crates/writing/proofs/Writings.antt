@@ -2,13 +2,13 @@
 -- Assumes nothing.
 use mathlib.Core.Path.{_≡_, refl, sym, ap, _∙_}
 use mathlib.Core.List.{List, [], _∷_, _++_, append-assoc, append-nil}
-use Prim.Native.Nat.{ℕ, _+_, _-_, _≤_, _<_}
+use Prim.Native.Nat.{ℕ, _+_, _-_, _*_, _≤_, _<_}
 use native.Mathlib.Nat.{add-zero, zero-add}
 use native.Mathlib.Numerals.{add-one}
 use native.Mathlib.Omega.{arith}
 use lib.ListN.{length, take, drop, getD, set, length-append, length-set, take-append-drop}
 use lib.Seq.{take-suc-set, take-suc, take-all, drop-set-lt, drop-drop}
-use Rattle.writing.specs.Written.{Wrote, afterText}
+use Rattle.writing.specs.Written.{Wrote, afterText, texts}
 
 -- what stands after a text is also what stood after the one before it
 rest-then : (a b c : List ℕ) (m e : ℕ) → m ≤ e → drop m b ≡ drop m a → drop e c ≡ drop e b → drop e c ≡ drop e a
@@ -39,12 +39,12 @@ and-then {a} {b} {c} {at} {m} {e} {x} {y} p q =
 pub wrote-to : {a b : List ℕ} {at e f : ℕ} {x : List ℕ} → e ≡ f → Wrote a b at e x → Wrote a b at f x
 wrote-to {a} {b} {at} {e} {f} {x} q w = record { long = w .long; next = sym q ∙ w .next; front = rw (← q) (w .front); rest = rw (← q) (w .rest) }
 
--- one byte more of a word
-pub word-more : (a b word : List ℕ) (at i : ℕ) → i < length word → at + length word ≤ length a → Wrote a b at (at + i) (take i word) → Wrote a (set b (at + i) (getD word i 0)) at (at + (i + 1)) (take (i + 1) word)
-word-more a b word at i h room w =
+-- one byte more of a text
+pub text-more : (a b text : List ℕ) (at i : ℕ) → i < length text → at + length text ≤ length a → Wrote a b at (at + i) (take i text) → Wrote a (set b (at + i) (getD text i 0)) at (at + (i + 1)) (take (i + 1) text)
+text-more a b text at i h room w =
     let e : at + i + 1 ≡ at + (i + 1) = omega arith in
-    let t : take (i + 1) word ≡ take i word ++ (getD word i 0 ∷ []) = rw (add-one i) (take-suc word i 0 h) in
-    rw t (wrote-to e (and-then w (wrote-byte b (at + i) (getD word i 0) (omega (arith, w .long)))))
+    let t : take (i + 1) text ≡ take i text ++ (getD text i 0 ∷ []) = rw (add-one i) (take-suc text i 0 h) in
+    rw t (wrote-to e (and-then w (wrote-byte b (at + i) (getD text i 0) (omega (arith, w .long)))))
 
 -- a text at the front of the buffer
 pub from-front : {a b : List ℕ} {e : ℕ} {x : List ℕ} → Wrote a b 0 e x → (e ≡ length x) × (b ≡ afterText x a)
@@ -63,3 +63,20 @@ byte-more {a} {b} {at} {m} e h q v w = wrote-to q (and-then w (wrote-byte b m v 
 -- what was written over the whole of a list is the list
 pub wrote-all : {a b : List ℕ} {e : ℕ} {x : List ℕ} → length a ≤ e → Wrote a b 0 e x → b ≡ x
 wrote-all {a} {b} {e} {x} h w = sym (take-all e b (omega (arith, w .long))) ∙ w .front
+
+-- the texts of a list's things
+module _ {A : Type 0} (f : A → List ℕ) where
+  -- one more at the end
+  texts-end : (xs : List A) (x : A) → texts f (xs ++ x ∷ []) ≡ texts f xs ++ f x
+  unfolding texts
+  texts-end [] x = append-nil (f x)
+  texts-end (y ∷ xs) x = ap (λ (l : List ℕ). f y ++ l) (texts-end xs x) ∙ sym (append-assoc (f y) (texts f xs) (f x))
+
+  pub texts-more : (xs : List A) (i : ℕ) (d : A) → i < length xs → texts f (take (i + 1) xs) ≡ texts f (take i xs) ++ f (getD xs i d)
+  texts-more xs i d h = rw (add-one i, take-suc xs i d h) (texts-end (take i xs) (getD xs i d))
+
+  -- how long they are, where none is longer than k
+  pub texts-length : (k : ℕ) → ((x : A) → length (f x) ≤ k) → (xs : List A) → length (texts f xs) ≤ k * length xs
+  unfolding texts
+  texts-length k short [] = omega arith
+  texts-length k short (x ∷ xs) = omega (arith, length-append (f x) (texts f xs), short x, texts-length k short xs)

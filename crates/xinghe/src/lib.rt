@@ -2,6 +2,7 @@
 // refuses, and writes its values as plain numbers to the arrays lent to it: zeros where it refuses.
 use calendar::rows::FIELDS;
 use calendar::rows::RowFields;
+use mending::MOST_BLOCKS;
 ghost use mathlib.Core.Path.{_≡_};
 ghost use mathlib.Core.List.{[], _∷_};
 ghost use lib.ListN.{length};
@@ -25,6 +26,7 @@ ghost use Rattle.xinghe.specs.Years.{fillAnswerIn, filledFields};
 ghost use Rattle.volumes.specs.Writer.{writeAnswer, afterWrite, writeNumber, written};
 ghost use Rattle.volumes.specs.Reader.{readAnswer, readNumber, readYears};
 ghost use Rattle.reigns.specs.Marked.{markedAnswer, markedNumber, markedMoons};
+ghost use Rattle.mending.specs.Mended.{mendAnswer, afterMend, afterNotes, mendNumber, mendCount};
 
 pub mod years;
 
@@ -221,4 +223,19 @@ pub extern "C" fn xinghe_marked(volume: &[u8], from: u64, to: u64, moons: &mut [
     let answer = reigns::marked(volume, from, to);
     *moons = answer.moons();
     answer.number()
+}
+
+// A scratched volume is mended where it is, and the indices of the blocks that were written afresh are stored at the front of the lent list, the rest
+// of which stays. Refused, nothing is written to either.
+#[no_mangle]
+pub extern "C" fn xinghe_mend(
+    volume: &mut [u8],
+    damaged: &mut [u64; MOST_BLOCKS],
+    count: &mut [u64; 1],
+) -> u64
+    ensures { λ r. ⌜ (r ≡ mendNumber (mendAnswer (now (volume .entry)))) × (now (volume .exit) ≡ afterMend (now (volume .entry))) × (now (damaged .exit) ≡ afterNotes (now (volume .entry)) (now (damaged .entry))) × (now (count .exit) ≡ mendCount (mendAnswer (now (volume .entry))) ∷ []) ⌝ }
+{
+    let mended = mending::mend(volume, damaged);
+    *count = [mended.count()];
+    mended.number()
 }

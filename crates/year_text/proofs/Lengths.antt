@@ -1,17 +1,15 @@
 -- How long the printer's texts are at the most.
 -- Assumes nothing.
-use mathlib.Core.Path.{_≡_, sym, ap, _∙_}
-use mathlib.Core.List.{List, [], _∷_, _++_, append-assoc, append-nil}
-use Prim.Native.Nat.{ℕ, _+_, _*_, _≤_, _<_}
-use native.Mathlib.Numerals.{add-one}
+use mathlib.Core.List.{List, [], _∷_, _++_}
+use Prim.Native.Nat.{ℕ, _+_, _*_, _≤_}
 use native.Mathlib.Omega.{arith}
-use lib.ListN.{length, take, getD, length-append}
-use lib.Seq.{take-suc}
+use lib.ListN.{length, length-append}
 use Rattle.lunisolar.specs.Sixty.{sexagenaryOf}
 use Rattle.calendar.specs.declared.YearHead.{YearHead}
 use Rattle.calendar.specs.declared.MonthRow.{MonthRow}
 use Rattle.year_text.specs.Decimal.{decimal}
 use Rattle.year_text.specs.Text.{field, named, mark, headLine, placeText, moonText, monthLine, rowLines, yearWord, monthsWord, leapWord}
+use Rattle.writing.proofs.Writings.{texts-length}
 use Rattle.year_text.proofs.Decimals.{at-most-20}
 
 pub field-length : (n end : ℕ) → length (field n end) ≤ 21
@@ -70,17 +68,6 @@ head-length n head =
       named-length leapWord (head .leap),
     )
 
--- one row's line more at the end
-lines-end : (rows : List MonthRow) (row : MonthRow) → rowLines (rows ++ row ∷ []) ≡ rowLines rows ++ monthLine row
-unfolding rowLines
-lines-end [] row = append-nil (monthLine row)
-lines-end (r ∷ rows) row = ap (λ (l : List ℕ). monthLine r ++ l) (lines-end rows row) ∙ sym (append-assoc (monthLine r) (rowLines rows) (monthLine row))
-
-pub lines-more : (rows : List MonthRow) (i : ℕ) (d : MonthRow) → i < length rows → rowLines (take (i + 1) rows) ≡ rowLines (take i rows) ++ monthLine (getD rows i d)
-lines-more rows i d h = rw (add-one i, take-suc rows i d h) (lines-end (take i rows) (getD rows i d))
-
 -- at most 107 bytes a row
 pub lines-length : (rows : List MonthRow) → length (rowLines rows) ≤ 107 * length rows
-unfolding rowLines
-lines-length [] = omega arith
-lines-length (row ∷ rows) = omega (arith, length-append (monthLine row) (rowLines rows), month-length row, lines-length rows)
+lines-length rows = texts-length monthLine 107 month-length rows

@@ -13,6 +13,7 @@ use Rattle.calendar.specs.declared.YearHead.{YearHead}
 use Rattle.calendar.specs.declared.HeadAnswer.{HeadAnswer}
 use Rattle.calendar.specs.declared.MonthRow.{MonthRow}
 use Rattle.year_list.specs.Filled.{rowsFrom}
+use Rattle.writing.specs.Written.{texts}
 use Rattle.year_text.specs.Decimal.{decimal}
 
 -- `year `, ` months `, ` leap `, `refused `
@@ -53,9 +54,8 @@ unfoldable pub monthLine : MonthRow → List ℕ
 monthLine row = placeText row ++ moonText row
 
 -- the lines of rows, one after the other
-unfoldable pub rowLines : List MonthRow → List ℕ
-rowLines [] = []
-rowLines (row ∷ rows) = monthLine row ++ rowLines rows
+abbrev pub rowLines : List MonthRow → List ℕ
+rowLines rows = texts monthLine rows
 
 -- a refusal: the word and the number, alone
 abbrev pub refusalLine : Refusal → List ℕ

@@ -3,6 +3,7 @@ use calendar::HeadAnswer;
 use calendar::MonthRow;
 use calendar::YearHead;
 use refusal::Refusal;
+use writing::put_text;
 ghost use mathlib.Core.Path.{_≡_};
 ghost use mathlib.Core.List.{[], _∷_};
 ghost use Prim.Native.Nat.{_+_, _*_, _≤_, _<_};
@@ -49,24 +50,12 @@ pub fn put_field(out: &mut [u8], at: usize, n: u64, end: u8) -> usize
     put(out, after, end)
 }
 
-fn put_word(out: &mut [u8], at: usize, word: &[u8]) -> usize
-    requires { ⌜ at + length (now word) ≤ length (now out) ⌝ }
-    ensures { λ r. ⌜ Wrote (now (out .entry)) (now (out .exit)) at r (now (word .entry)) ⌝ }
-{
-    let mut i = 0;
-    while i < word.len() {
-        out[at + i] = word[i];
-        i += 1;
-    }
-    at + i
-}
-
 // A word, and a number after it.
 fn put_named(out: &mut [u8], at: usize, word: &[u8], n: u64) -> usize
     requires { ⌜ at + length (now word) + 20 ≤ length (now out) ⌝ }
     ensures { λ r. ⌜ Wrote (now (out .entry)) (now (out .exit)) at r (named (now (word .entry)) n) ⌝ }
 {
-    let after = put_word(out, at, word);
+    let after = put_text(out, at, word);
     put_decimal(out, after, n)
 }
 
@@ -137,7 +126,7 @@ pub fn put_refusal(out: &mut [u8], at: usize, refusal: Refusal) -> usize
     requires { ⌜ at + 29 ≤ length (now out) ⌝ }
     ensures { λ r. ⌜ Wrote (now (out .entry)) (now (out .exit)) at r (refusalLine refusal) ⌝ }
 {
-    let end = put_word(out, at, b"refused ");
+    let end = put_text(out, at, b"refused ");
     put_field(out, end, refusal.number(), 10)
 }
 

@@ -22,6 +22,8 @@ pub struct Inputs {
     /// The first years of volumes, and the volumes.
     pub first_years: Vec<u64>,
     pub volumes: Vec<Volume>,
+    /// The same volumes with some blocks scratched.
+    pub scratched: Vec<Volume>,
     /// A volume by its index, and a first and a last year within it.
     pub spans: Vec<(usize, u64, u64)>,
 }
@@ -31,6 +33,8 @@ pub const VOLUME_YEARS: u64 = 20;
 pub type Volume = [u8; VOLUME_YEARS as usize * fast::BLOCK];
 /// Few enough that the processor's cache holds the volumes that are read.
 pub const VOLUMES: usize = 1 << 9;
+/// How many blocks of a volume are scratched.
+const SCRATCHED: u64 = 4;
 
 struct Random {
     state: u64,
@@ -104,6 +108,20 @@ impl Random {
         (volume, first + one.min(other), first + one.max(other))
     }
 
+    /// The volume with some of its blocks filled with random bytes, any as often as any
+    /// other.
+    fn scratched(&mut self, &whole: &Volume) -> Volume {
+        let mut volume = whole;
+        let mut left = SCRATCHED;
+        for (later, block) in volume.rchunks_mut(fast::BLOCK).enumerate().rev() {
+            if self.below(later as u64 + 1) < left {
+                block.fill_with(|| self.below(256) as u8);
+                left -= 1;
+            }
+        }
+        volume
+    }
+
     /// Steps of up to a million months either way; a few lead outside.
     fn walk(&mut self) -> (Row, Vec<i64>) {
         let counts = (0..STEPS).map(|_| self.below(2_000_001) as i64 - 1_000_000);
@@ -128,6 +146,11 @@ impl Inputs {
         let mut random = Random { state: 1 };
         let mut volumes_random = Random { state: 2 };
         let first_years = some(VOLUMES, || volumes_random.first_year());
+        let volumes: Vec<Volume> = first_years.iter().map(volume).collect();
+        let mut scratches_random = Random { state: 3 };
+        let scratched = volumes
+            .iter()
+            .map(|whole| scratches_random.scratched(whole));
         Self {
             months: some(COUNT, || random.month()),
             dates: some(COUNT, || random.date()),
@@ -139,7 +162,8 @@ impl Inputs {
             conjunctions: some(COUNT, || (random.year(), random.planet())),
             planets: some(COUNT, || random.planet()),
             labels: some(COUNT, || random.label()),
-            volumes: first_years.iter().map(volume).collect(),
+            scratched: scratched.collect(),
+            volumes,
             spans: some(COUNT, || volumes_random.span(&first_years)),
             first_years,
         }

@@ -20,6 +20,9 @@ type End = (Row, [u64; 3]);
 /// A planet's count of stages, and the stages.
 type Stages = ([u64; 1], [[u64; 10]; 14]);
 
+/// A volume that is mended, the list of the blocks written afresh, and their count.
+type Mended = (Volume, [u64; fast::MOST_BLOCKS], [u64; 1]);
+
 /// The jobs that stand on the months before a year, by one way to them in Rust.
 fn years_and_dates<B: MonthsBefore>(inputs: &Inputs, names: [&'static str; 7]) -> [Line; 7] {
     [
@@ -243,6 +246,59 @@ fn reigns(inputs: &Inputs) -> [Line; 2] {
     ]
 }
 
+/// Mending is in place: each call is given a copy of its own, and the copying is timed
+/// with it.
+fn library_mend(scratched: &Volume, (volume, damaged, count): &mut Mended) -> u64 {
+    *volume = *scratched;
+    // SAFETY: pointer and length are those of an array.
+    unsafe { raw::xinghe_mend(volume.as_mut_ptr(), volume.len(), damaged, count) }
+}
+
+fn rust_mend(scratched: &Volume, (volume, damaged, count): &mut Mended) -> u64 {
+    *volume = *scratched;
+    fast::mend(volume, damaged, count)
+}
+
+fn rust_mend_by_names(scratched: &Volume, (volume, damaged, count): &mut Mended) -> u64 {
+    *volume = *scratched;
+    fast::mend_by_names(volume, damaged, count)
+}
+
+fn mendings(inputs: &Inputs) -> [Line; 4] {
+    let blank: Mended = ([0; _], [0; _], [0]);
+    let (scratched, whole) = (&inputs.scratched, &inputs.volumes);
+    [
+        measure(
+            "a volume of 20 years, 4 scratched, mended",
+            scratched,
+            blank,
+            library_mend,
+            rust_mend,
+        ),
+        measure(
+            "the same, in Rust too by the years that blocks name",
+            scratched,
+            blank,
+            library_mend,
+            rust_mend_by_names,
+        ),
+        measure(
+            "a volume of 20 years, whole, mended",
+            whole,
+            blank,
+            library_mend,
+            rust_mend,
+        ),
+        measure(
+            "the same, in Rust too by the years that blocks name",
+            whole,
+            blank,
+            library_mend,
+            rust_mend_by_names,
+        ),
+    ]
+}
+
 fn main() {
     let inputs = Inputs::new();
     println!("| job | library, ns per call | Rust, ns per call | library / Rust |");
@@ -259,6 +315,7 @@ fn main() {
     names(&inputs).iter().for_each(Line::print);
     volumes(&inputs).iter().for_each(Line::print);
     reigns(&inputs).iter().for_each(Line::print);
+    mendings(&inputs).iter().for_each(Line::print);
     let survey = survey::measure();
     survey.print();
     println!();

@@ -23,9 +23,11 @@ pub enum Refusal {
     Cut = 8,
     Planet = 9,
     NoNames = 10,
-    /// Empty, or no whole number of blocks.
+    /// Empty, or no whole number of blocks; to be mended, also too many of them.
     Volume = 11,
     Block = 12,
+    /// The year of a volume's first block is not known, or its run leaves the round.
+    FirstYear = 13,
 }
 
 impl Refusal {

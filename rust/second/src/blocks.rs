@@ -212,22 +212,26 @@ pub fn year_named(block: &Block) -> u32 {
     Bytes { rest: block }.wide()
 }
 
+/// Whatever else the block says.
+pub fn check_is_right(block: &Block) -> bool {
+    let mut bytes = Bytes { rest: block };
+    bytes.taken::<CHECKED>();
+    bytes.told_check_is_right(block)
+}
+
 /// Byte i counts i + 1 times. Going backwards, a sum of the bytes so far is added
-/// up byte after byte: it has byte i in it at i itself and at each place before.
+/// up byte after byte: it has byte i in it at i itself and at each place before. 32
+/// bits hold it all, so that the prime is taken off at the end.
 fn check(bytes: &[u8]) -> u16 {
     let (mut so_far, mut sum) = (0, 0);
     for &byte in bytes.iter().rev() {
-        so_far = reduced(so_far + u32::from(byte));
-        sum = reduced(sum + so_far);
+        so_far += u32::from(byte);
+        sum += so_far;
     }
-    sum as u16
-}
-
-fn reduced(mut sum: u32) -> u32 {
     while sum >= PRIME {
         sum -= PRIME;
     }
-    sum
+    sum as u16
 }
 
 fn wide(number: u64) -> u32 {

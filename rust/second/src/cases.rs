@@ -6,6 +6,7 @@ use std::io::{self, Write};
 use crate::ask::{self, Refusal};
 use crate::fields::{self, RowNumbers, ROW};
 use crate::instants::Cut;
+use crate::mending_cases;
 use crate::name_cases;
 use crate::numbers::CHAPTER_YEARS;
 use crate::planet_cases;
@@ -80,6 +81,7 @@ fn edge_lines() -> Vec<String> {
     lines.extend(name_cases::lines());
     lines.extend(volume_cases::lines());
     lines.extend(reign_cases::lines());
+    lines.extend(mending_cases::lines());
     lines
 }
 

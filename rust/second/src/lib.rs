@@ -9,9 +9,10 @@
 //! conjunction; their stages are read from the printed text ([`stage_text`]), and
 //! the days of the sixty are counted on one by one ([`sixty`]). A volume's totals
 //! are counted mark by mark, and its blocks are read field by field ([`blocks`]); the
-//! years of a reign are found by counting on through the volume ([`reigns`]).
-//! [`Walker`] yields the round a year at a time, [`Checkpoints`] finds a single
-//! year, month or day quickly by walking on from a kept state.
+//! years of a reign are found by counting on through the volume ([`reigns`]), and the
+//! first year of a scratched volume by counting down from every sound block
+//! ([`mending`]). [`Walker`] yields the round a year at a time, [`Checkpoints`] finds a
+//! single year, month or day quickly by walking on from a kept state.
 
 pub mod anomaly;
 pub mod ask;
@@ -21,6 +22,8 @@ pub mod checkpoints;
 pub mod digest;
 pub mod fields;
 pub mod instants;
+pub mod mending;
+pub mod mending_cases;
 pub mod name_cases;
 pub mod nodes;
 pub mod numbers;
@@ -30,6 +33,7 @@ pub mod planets;
 pub mod printer;
 pub mod reign_cases;
 pub mod reigns;
+pub mod scratched;
 pub mod sixty;
 pub mod spans;
 pub mod stage_text;

@@ -1,10 +1,10 @@
-//! `second cases`, `second survey`, `second year_runs` or `second volume FIRST LAST`,
-//! written to standard output.
+//! `second cases`, `second survey`, `second year_runs`, `second volume FIRST LAST`,
+//! `second scratched` or `second mended`, written to standard output.
 
 use std::io::{self, BufWriter, Write};
 use std::process::ExitCode;
 
-use second::{cases, printer, survey, volume_programs};
+use second::{cases, mending, printer, scratched, survey, volume_programs};
 
 fn main() -> ExitCode {
     let arguments: Vec<String> = std::env::args().skip(1).collect();
@@ -17,10 +17,12 @@ fn main() -> ExitCode {
             let blocks = volume_programs::span(first.as_bytes(), last.as_bytes());
             volume_programs::write(&mut out, blocks)
         }
+        [what] if what == "scratched" => out.write_all(&scratched::volume()),
+        [what] if what == "mended" => out.write_all(&mending::printed(&scratched::volume())),
         _ => {
             eprintln!(
                 "usage: second cases | second survey | second year_runs | \
-                 second volume FIRST LAST"
+                 second volume FIRST LAST | second scratched | second mended"
             );
             return ExitCode::from(2);
         }

@@ -2,8 +2,9 @@
 
 use std::io::{self, Write};
 
-use crate::blocks::Totals;
+use crate::blocks::{Block, Totals, BLOCK};
 use crate::digest::Digest;
+use crate::mending;
 use crate::numbers::{ERAS, ERA_YEARS};
 use crate::reigns;
 use crate::volumes;
@@ -44,7 +45,7 @@ impl Counts {
         let leaps = self.leaps[1..].iter().map(u64::to_string);
         format!(
             "{title} months {} long {} leaps {} new {} full {} digest {} planets {} volume {} \
-             marked {}\n",
+             marked {} mended {}\n",
             self.months,
             self.long,
             leaps.collect::<Vec<_>>().join(" "),
@@ -53,13 +54,59 @@ impl Counts {
             digests.months.value(),
             digests.planets.value(),
             digests.volume.value(),
-            digests.marked.value()
+            digests.marked.value(),
+            digests.mended.value()
         )
     }
 }
 
-/// The planets, the volume and the marked moons have digests of their own, beside
-/// that of all the others.
+/// The volume of the whole round as far as it is walked: its totals, and its last two
+/// years with their blocks, or the first alone.
+#[derive(Default)]
+struct Volume {
+    totals: Totals,
+    years: Vec<Year>,
+    blocks: Vec<Block>,
+}
+
+impl Volume {
+    /// Goes on by a year and gives its block.
+    fn go_on(&mut self, year: Year) -> Block {
+        if self.years.len() == 2 {
+            self.years.remove(0);
+            self.blocks.remove(0);
+        }
+        let block = volumes::bind(&mut self.totals, &year).put_down();
+        self.years.push(year);
+        self.blocks.push(block);
+        block
+    }
+
+    /// The two blocks with one byte altered, in the earlier of them or the later and
+    /// further on in it from year to year; the first year's alone as it is.
+    fn scratched(&self) -> Vec<Block> {
+        let mut blocks = self.blocks.clone();
+        if let [_, year] = &*self.years {
+            let number = year.number as usize;
+            let byte = &mut blocks[number % 2][number % BLOCK];
+            *byte = byte.wrapping_add(1);
+        }
+        blocks
+    }
+
+    /// The scratched blocks mended as a volume of their own, and the indices of those
+    /// written afresh. The years are at hand: nothing has to be walked again.
+    fn mended(&self) -> (Vec<u64>, Vec<Block>) {
+        let mut blocks = self.scratched();
+        let first = self.years[0].number as i64;
+        assert_eq!(mending::first_year(&blocks), Some(first));
+        let damaged = mending::write_afresh(&mut blocks, &mending::bound(&self.years));
+        (damaged, blocks)
+    }
+}
+
+/// The planets, the volume, the marked moons and the mended years have digests of
+/// their own, beside that of all the others.
 #[derive(Default)]
 struct Digests {
     months: Digest,
@@ -68,18 +115,31 @@ struct Digests {
     volume: Digest,
     /// How many new moons and how many full moons of each year are marked.
     marked: Digest,
+    /// Each year and the one before it, scratched and mended.
+    mended: Digest,
 }
 
 impl Digests {
-    /// The totals are those of the volume before the year.
-    fn feed_year(&mut self, year: &Year, totals: &mut Totals) {
-        self.months.feed_year(year);
-        self.planets.feed_conjunctions(year);
-        let page = volumes::bind(totals, year);
-        self.volume.feed_block(&page.put_down());
-        let (new_moons, full_moons) = reigns::marks(year);
+    /// The volume is that of the years before.
+    fn feed_year(&mut self, year: Year, volume: &mut Volume) {
+        self.months.feed_year(&year);
+        self.planets.feed_conjunctions(&year);
+        let (new_moons, full_moons) = reigns::marks(&year);
         self.marked.feed(new_moons);
         self.marked.feed(full_moons);
+        self.volume.feed_block(&volume.go_on(year));
+        let (damaged, blocks) = volume.mended();
+        self.feed_mended(&damaged, &blocks);
+    }
+
+    fn feed_mended(&mut self, damaged: &[u64], blocks: &[Block]) {
+        self.mended.feed(damaged.len() as u64);
+        for &index in damaged {
+            self.mended.feed(index);
+        }
+        for block in blocks {
+            self.mended.feed_block(block);
+        }
     }
 
     fn add(&mut self, other: &Self) {
@@ -87,6 +147,7 @@ impl Digests {
         self.planets.feed_digest(&other.planets);
         self.volume.feed_digest(&other.volume);
         self.marked.feed_digest(&other.marked);
+        self.mended.feed_digest(&other.mended);
     }
 }
 
@@ -94,9 +155,9 @@ pub fn write(out: &mut impl Write) -> io::Result<()> {
     let mut walker = Walker::from_origin();
     let mut round = Counts::default();
     let mut round_digests = Digests::default();
-    let mut totals = Totals::default();
+    let mut volume = Volume::default();
     for era in 1..=ERAS {
-        let (counts, digests) = survey_era(&mut walker, &mut totals);
+        let (counts, digests) = survey_era(&mut walker, &mut volume);
         out.write_all(counts.line(&format!("era {era}"), &digests).as_bytes())?;
         round.add(&counts);
         round_digests.add(&digests);
@@ -105,12 +166,12 @@ pub fn write(out: &mut impl Write) -> io::Result<()> {
     out.write_all(round.line("round", &round_digests).as_bytes())
 }
 
-fn survey_era(walker: &mut Walker, totals: &mut Totals) -> (Counts, Digests) {
+fn survey_era(walker: &mut Walker, volume: &mut Volume) -> (Counts, Digests) {
     let mut counts = Counts::default();
     let mut digests = Digests::default();
     for year in walker.take(ERA_YEARS as usize) {
         counts.count_year(&year);
-        digests.feed_year(&year, totals);
+        digests.feed_year(year, volume);
     }
     (counts, digests)
 }

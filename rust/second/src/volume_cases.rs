@@ -109,15 +109,25 @@ fn write((first, last, room): Writing) -> String {
     numbered_line(format!("write {first} {last} {room}"), answer)
 }
 
-/// A buffer of zeros, the volume at its front, where the writer gives one, and one
-/// byte altered.
-pub fn altered(first: u64, last: u64, at: usize, byte: u8) -> [u8; BUFFER] {
+/// A buffer of zeros, and the volume at its front, where the writer gives one.
+pub fn written(first: u64, last: u64) -> [u8; BUFFER] {
     let mut buffer = [0; BUFFER];
     // Refused, the buffer stays as it was.
     let _ = volumes::write(first, last, &mut buffer);
+    buffer
+}
+
+/// Alters one byte, if there is one at that place.
+pub fn alter(buffer: &mut [u8; BUFFER], at: usize, byte: u8) {
     if let Some(altered) = buffer.get_mut(at) {
         *altered = byte;
     }
+}
+
+/// The volume in its buffer, with one byte altered.
+pub fn altered(first: u64, last: u64, at: usize, byte: u8) -> [u8; BUFFER] {
+    let mut buffer = written(first, last);
+    alter(&mut buffer, at, byte);
     buffer
 }
 

@@ -42,6 +42,7 @@ pub fn years_line(volume: &[u8]) -> String {
     }
 }
 
-fn refused(number: u64) -> String {
+/// The line of every program that refuses.
+pub fn refused(number: u64) -> String {
     format!("refused {number}\n")
 }

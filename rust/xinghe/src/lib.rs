@@ -6,9 +6,10 @@
 //! row that is not genuine, 5 a carry out of the round, 6 a list or buffer too short,
 //! 7 the day number, 8 the cut or its point, 9 the planet, 10 two lists of names of
 //! which neither is 360 bytes, 11 a volume that is empty or no whole number of blocks,
-//! 12 a block that is not what the writer gives, or of those that [`marked`] looks at
-//! one with a wrong check or totals that have fallen. include/xinghe.h says what each
-//! value means; the arrays here are in its order.
+//! or that has too many of them to be mended, 12 a block that is not what the writer
+//! gives, or of those that [`marked`] looks at one with a wrong check or totals that have
+//! fallen, 13 a scratched volume whose first year is not known or whose run leaves the
+//! round. include/xinghe.h says what each value means; the arrays here are in its order.
 
 mod raw;
 
@@ -29,6 +30,9 @@ pub const NAMES: usize = 360;
 
 /// The bytes of a volume's block: one year.
 pub const BLOCK: usize = 512;
+
+/// The most blocks of a volume that is mended.
+pub const MOST_BLOCKS: usize = 1_024;
 
 /// Where a walk ends.
 #[derive(Clone, Copy, Debug, PartialEq, Eq)]
@@ -216,6 +220,32 @@ pub fn marked(volume: &[u8], from: u64, to: u64) -> Answer<Marked> {
         new_moons,
         full_moons,
     })
+}
+
+/// Mends a scratched volume in place. The year of its first block comes from any sound
+/// one, which has a right check and a year of the round; each block that is not what
+/// [`write_volume`] writes at its place in the volume from that year on is written
+/// afresh. Their indices, ascending, stand at the front of the list afterwards and are
+/// answered. The rest of the list stays as it was; refused, the whole list does, and the
+/// volume.
+///
+/// ```
+/// let mut volume = [0; 3 * xinghe::BLOCK];
+/// xinghe::write_volume(293_996, 293_998, &mut volume).unwrap();
+/// let whole = volume;
+/// volume[600] += 1;
+/// volume[..xinghe::BLOCK].fill(0);
+/// let mut damaged = [0; xinghe::MOST_BLOCKS];
+/// assert_eq!(xinghe::mend(&mut volume, &mut damaged), Ok(&[0, 1][..]));
+/// assert_eq!(volume, whole);
+/// assert_eq!(xinghe::mend(&mut [0; xinghe::BLOCK], &mut damaged), Err(13));
+/// ```
+pub fn mend<'a>(volume: &mut [u8], damaged: &'a mut [u64; MOST_BLOCKS]) -> Answer<&'a [u64]> {
+    let [count] = answer(|count| {
+        // SAFETY: as in `fill_year`.
+        unsafe { raw::xinghe_mend(volume.as_mut_ptr(), volume.len(), damaged, count) }
+    })?;
+    Ok(&damaged[..count as usize])
 }
 
 /// Carries a row by each of the counts in turn; those that would lead outside

@@ -66,4 +66,12 @@ unsafe extern "C" {
         to: u64,
         moons: &mut [u64; 2],
     ) -> u64;
+
+    /// `volume` points to `length` bytes, and is not null.
+    pub fn xinghe_mend(
+        volume: *mut u8,
+        length: usize,
+        damaged: &mut [u64; 1_024],
+        count: &mut [u64; 1],
+    ) -> u64;
 }

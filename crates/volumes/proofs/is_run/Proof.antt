@@ -1,4 +1,4 @@
-use Rattle.volumes.specs.Stream.{isRun}
+use Rattle.volumes.specs.Volume.{isRun}
 use borrow.Author.Needs.{needs}
 use Rattle.volumes.proofs.is_run.Statement.{statement}
 use Rattle.volumes.proofs.is_run.Tie as tie

@@ -9,6 +9,7 @@
 
 mod anomaly;
 mod chapter;
+mod mending;
 mod moon;
 mod names;
 mod node;
@@ -19,6 +20,7 @@ mod stages;
 mod volumes;
 
 pub use chapter::{Division, MonthsBefore, Table};
+pub use mending::MOST_BLOCKS;
 pub use names::LIST;
 pub use rows::{Row, ROUND_DAYS, ROUND_MONTHS, ROUND_YEARS, ROW, SIXTY};
 pub use volumes::BLOCK;
@@ -186,4 +188,20 @@ pub fn marked(volume: &[u8], from: u64, to: u64, moons: &mut [u64; 2]) -> u64 {
 pub fn marked_by_halves(volume: &[u8], from: u64, to: u64, moons: &mut [u64; 2]) -> u64 {
     let marked = reigns::marked(volume, from, to, reigns::weighted_by_halves);
     written(marked, moons)
+}
+
+#[inline(never)]
+pub fn mend(volume: &mut [u8], damaged: &mut [u64; MOST_BLOCKS], count: &mut [u64; 1]) -> u64 {
+    let mended = mending::mend(volume, damaged, mending::first_by_checks);
+    written(mended, count)
+}
+
+#[inline(never)]
+pub fn mend_by_names(
+    volume: &mut [u8],
+    damaged: &mut [u64; MOST_BLOCKS],
+    count: &mut [u64; 1],
+) -> u64 {
+    let mended = mending::mend(volume, damaged, mending::first_by_names);
+    written(mended, count)
 }

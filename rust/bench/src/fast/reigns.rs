@@ -3,7 +3,7 @@
 use super::volumes::{Block, BLOCK, CHECK_AT, PRIME, TOTALS_AT};
 
 #[inline]
-fn four(block: &Block, at: usize) -> u32 {
+pub fn four(block: &Block, at: usize) -> u32 {
     let [a, b, c, d] = [0, 1, 2, 3].map(|i| block[at + i]);
     u32::from_le_bytes([a, b, c, d])
 }
@@ -32,12 +32,17 @@ pub fn weighted_by_halves(body: &[u8]) -> u32 {
     sum(front, 0) + sum(back, HALF)
 }
 
+#[inline]
+pub fn check_is_right(block: &Block, weighted: impl Fn(&[u8]) -> u32) -> bool {
+    let (body, told) = block.split_at(CHECK_AT);
+    let told = u16::from_le_bytes([told[0], told[1]]);
+    weighted(body) % PRIME == u32::from(told)
+}
+
 /// Leap months, marked new moons, marked full moons.
 #[inline]
 fn totals(block: &Block, weighted: impl Fn(&[u8]) -> u32) -> Result<[u32; 3], u64> {
-    let (body, told) = block.split_at(CHECK_AT);
-    let told = u16::from_le_bytes([told[0], told[1]]);
-    if weighted(body) % PRIME != u32::from(told) {
+    if !check_is_right(block, weighted) {
         return Err(12);
     }
     Ok([0, 4, 8].map(|further| four(block, TOTALS_AT + further)))

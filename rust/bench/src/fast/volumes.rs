@@ -14,7 +14,7 @@ pub const CHECK_AT: usize = 510;
 pub const PRIME: u32 = 65_521;
 
 /// What moves from year to year of a volume.
-struct Volume {
+pub struct Volume {
     past: u64,
     lunation: u32,
     day: u32,
@@ -40,7 +40,7 @@ fn node_passed(halves: u32) -> u32 {
 
 impl Volume {
     #[inline]
-    fn from_year(first: u64) -> Self {
+    pub fn from_year(first: u64) -> Self {
         let past = first - 1;
         let lunation = Division::months_before(past);
         let instant = lunation * P;
@@ -56,7 +56,7 @@ impl Volume {
 
     /// Writes the block of the year at hand and goes on to the next.
     #[inline]
-    fn write_block(&mut self, block: &mut Block) {
+    pub fn write_block(&mut self, block: &mut Block) {
         let before = u64::from(self.lunation);
         // As with a year's list, the numbers of twelve months are constants; no
         // place is 13.

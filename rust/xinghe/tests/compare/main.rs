@@ -1,6 +1,7 @@
 //! The library is compared with the independent second program. What is
 //! expected are that program's walked answers; nothing here works out a row, a
-//! node, a correction, a conjunction, a name, a block or a count of marked moons.
+//! node, a correction, a conjunction, a name, a block, a count of marked moons or a
+//! mended volume.
 
 // The crate keeps its declarations to itself; `sentinels` needs them to see
 // what is written where a call is refused.
@@ -12,6 +13,9 @@ mod damages;
 mod expected;
 mod labels;
 mod lists;
+mod mending;
+mod mending_damages;
+mod mending_outcomes;
 mod planets;
 mod random;
 mod reign_damages;

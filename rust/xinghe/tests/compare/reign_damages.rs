@@ -48,7 +48,7 @@ fn every_byte_to_every_value() {
     tally.end(4 * 2_556 * 255);
 }
 
-fn fill(random: &mut Random, bytes: &mut [u8]) {
+pub fn fill(random: &mut Random, bytes: &mut [u8]) {
     match random.below(4) {
         0 => bytes.fill(0),
         1 => bytes.fill(u8::MAX),
@@ -81,18 +81,18 @@ fn other_blocks_do_not_count() {
     tally.end(40_000);
 }
 
-fn some_block<'a>(random: &mut Random, bytes: &'a mut [u8]) -> &'a mut [u8] {
+pub fn some_block<'a>(random: &mut Random, bytes: &'a mut [u8]) -> &'a mut [u8] {
     let index = random.below((bytes.len() / BLOCK) as u64) as usize;
     &mut bytes[index * BLOCK..][..BLOCK]
 }
 
-fn copy_block(random: &mut Random, bytes: &mut [u8]) {
+pub fn copy_block(random: &mut Random, bytes: &mut [u8]) {
     let copied = some_block(random, bytes).to_vec();
     some_block(random, bytes).copy_from_slice(&copied);
 }
 
 /// Between blocks or within one, at the front or behind.
-fn cut(random: &mut Random, bytes: &mut Vec<u8>) {
+pub fn cut(random: &mut Random, bytes: &mut Vec<u8>) {
     let length = random.below(bytes.len() as u64 + 1) as usize;
     let whole_blocks = length / BLOCK * BLOCK;
     match random.below(6) {
@@ -131,7 +131,7 @@ fn alter_first_year(random: &mut Random, bytes: &mut [u8]) {
 }
 
 /// Nothing but the length is left; half of the times every check is right.
-fn make_garbage(random: &mut Random, bytes: &mut [u8]) {
+pub fn make_garbage(random: &mut Random, bytes: &mut [u8]) {
     bytes.fill_with(|| random.number() as u8);
     if random.below(2) == 0 {
         // A cut may have left a part of one.

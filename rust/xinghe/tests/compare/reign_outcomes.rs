@@ -77,7 +77,7 @@ pub fn four(bytes: &[u8], at: usize) -> u32 {
     u32::from_le_bytes(four.expect("four bytes"))
 }
 
-fn check_is_right(block: &[u8]) -> bool {
+pub fn check_is_right(block: &[u8]) -> bool {
     let mut right = block.to_vec();
     make_check_right(&mut right);
     block == right

@@ -15,14 +15,14 @@ const SENTINEL: u64 = 0x1234_5678_9abc_def1;
 
 /// An array that is lent, between numbers that are not.
 #[repr(C)]
-struct Lent<T> {
+pub struct Lent<T> {
     before: [u64; 8],
-    out: T,
+    pub out: T,
     behind: [u64; 8],
 }
 
 impl<T> Lent<T> {
-    fn new(out: T) -> Self {
+    pub fn new(out: T) -> Self {
         Self {
             before: [SENTINEL; 8],
             out,
@@ -32,7 +32,7 @@ impl<T> Lent<T> {
 
     /// What the array holds now; the numbers about it must be as they were.
     #[track_caller]
-    fn given_back(self) -> T {
+    pub fn given_back(self) -> T {
         // Read anew: the compiler may take them for numbers nobody could reach.
         let lent = black_box(self);
         assert_eq!((lent.before, lent.behind), ([SENTINEL; 8], [SENTINEL; 8]));

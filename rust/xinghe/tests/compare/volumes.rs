@@ -12,7 +12,7 @@ use crate::tally::Tally;
 
 pub const SENTINEL: u8 = 0xa5;
 /// Bytes before and behind the lent part, which so begins at an odd place.
-const MARGIN: usize = 61;
+pub const MARGIN: usize = 61;
 pub const OTHER: u64 = 0x1234_5678_9abc_def1;
 
 /// First and last years: both ends of the round, heads of eras, a chapter, and

@@ -13,7 +13,7 @@ use second::volumes;
 use crate::random::Random;
 use crate::run::{self, READER};
 
-fn volume(first: u64, last: u64) -> Vec<u8> {
+pub fn volume(first: u64, last: u64) -> Vec<u8> {
     let blocks = volumes::blocks(first, last).expect("years of the round");
     blocks.flatten().collect()
 }
@@ -100,7 +100,7 @@ fn what_is_no_volume() {
 }
 
 /// Pieces of odd lengths, each sent off by itself.
-fn feed_pieces(stdin: &mut ChildStdin, bytes: &[u8]) -> io::Result<()> {
+pub fn feed_pieces(stdin: &mut ChildStdin, bytes: &[u8]) -> io::Result<()> {
     let mut rest = bytes;
     for length in [1, 3, 508, 511, 1, 513, 700, 1_025, 7].into_iter().cycle() {
         let (piece, behind) = rest.split_at(length.min(rest.len()));

@@ -1,8 +1,8 @@
 //! One run of a program: how it is fed, and who takes what it writes.
 
 use std::io::{self, ErrorKind, Read, Write};
-use std::path::Path;
-use std::process::{Child, ChildStdin, ChildStdout, Command, Stdio};
+use std::path::{Path, PathBuf};
+use std::process::{Child, ChildStdin, ChildStdout, Command, ExitStatus, Stdio};
 use std::sync::mpsc::{self, Receiver};
 use std::thread;
 use std::time::Duration;
@@ -13,8 +13,9 @@ const PATIENCE: Duration = Duration::from_secs(300);
 
 pub const WRITER: &str = "volume_writer";
 pub const READER: &str = "volume_reader";
+pub const MENDER: &str = "mend";
 
-fn command(program: &str) -> Command {
+fn path(program: &str) -> PathBuf {
     let top = Path::new(env!("CARGO_MANIFEST_DIR")).join("../..");
     let path = top.join("target/bin").join(program);
     let shown = path.display();
@@ -22,7 +23,14 @@ fn command(program: &str) -> Command {
         path.is_file(),
         "{shown} is missing; run: rt check {program}"
     );
-    Command::new(path)
+    path
+}
+
+/// A line of shell in which `"$0"` is the program.
+pub fn shell(line: &str, program: &str) -> Command {
+    let mut command = Command::new("sh");
+    command.args(["-c", line]).arg(path(program));
+    command
 }
 
 /// What is written where the whole input is there from the start.
@@ -38,11 +46,28 @@ pub fn fed(
     program: &str,
     feed: impl FnOnce(&mut ChildStdin) -> io::Result<()> + Send + 'static,
 ) -> Vec<u8> {
-    taken(program, feed, |stdout| {
-        let mut bytes = Vec::new();
-        stdout.read_to_end(&mut bytes).expect("output to read");
-        bytes
-    })
+    taken(program, feed, all)
+}
+
+pub fn all(stdout: &mut ChildStdout) -> Vec<u8> {
+    let mut bytes = Vec::new();
+    stdout.read_to_end(&mut bytes).expect("output to read");
+    bytes
+}
+
+/// What is written where the input is no pipe of ours.
+#[track_caller]
+pub fn printed_from(program: &str, input: impl Into<Stdio>) -> Vec<u8> {
+    let mut command = Command::new(path(program));
+    printed_by(command.stdin(input))
+}
+
+/// What a command writes that has its input.
+#[track_caller]
+pub fn printed_by(command: &mut Command) -> Vec<u8> {
+    let (made, status) = made(started(command), all);
+    assert!(status.code().is_some(), "ended by a signal: {status}");
+    made
 }
 
 /// What is made of the output, which is taken while the program runs: it may be
@@ -53,12 +78,41 @@ pub fn taken<T: Send + 'static>(
     feed: impl FnOnce(&mut ChildStdin) -> io::Result<()> + Send + 'static,
     take: impl FnOnce(&mut ChildStdout) -> T + Send + 'static,
 ) -> T {
-    let mut command = command(program);
-    let command = command.stdin(Stdio::piped()).stdout(Stdio::piped());
-    let mut child = command.spawn().expect("a program that starts");
+    let (made, status) = ended(&mut Command::new(path(program)), feed, take);
+    assert!(status.code().is_some(), "ended by a signal: {status}");
+    made
+}
+
+/// The same of a command that is fed, and how it ended.
+#[track_caller]
+pub fn ended<T: Send + 'static>(
+    command: &mut Command,
+    feed: impl FnOnce(&mut ChildStdin) -> io::Result<()> + Send + 'static,
+    take: impl FnOnce(&mut ChildStdout) -> T + Send + 'static,
+) -> (T, ExitStatus) {
+    let mut child = started(command.stdin(Stdio::piped()));
     let mut stdin = child.stdin.take().expect("a piped input");
-    let mut stdout = child.stdout.take().expect("a piped output");
     let feeder = thread::spawn(move || feed(&mut stdin));
+    let ended = made(child, take);
+    let fed = feeder.join().expect("a feeder that ends");
+    match fed.map_err(|error| error.kind()) {
+        // A program that knows its answer may end before it has read all.
+        Ok(()) | Err(ErrorKind::BrokenPipe) => ended,
+        Err(kind) => panic!("the input breaks off: {kind}"),
+    }
+}
+
+fn started(command: &mut Command) -> Child {
+    let command = command.stdout(Stdio::piped());
+    command.spawn().expect("a program that starts")
+}
+
+#[track_caller]
+fn made<T: Send + 'static>(
+    mut child: Child,
+    take: impl FnOnce(&mut ChildStdout) -> T + Send + 'static,
+) -> (T, ExitStatus) {
+    let mut stdout = child.stdout.take().expect("a piped output");
     let (sender, receiver) = mpsc::channel();
     let taker = thread::spawn(move || sender.send(take(&mut stdout)));
     let made = waited(&mut child, &receiver);
@@ -67,13 +121,7 @@ pub fn taken<T: Send + 'static>(
         .expect("a taker that ends")
         .expect("a receiver");
     let status = child.wait().expect("a child to wait for");
-    assert!(status.code().is_some(), "ended by a signal: {status}");
-    let fed = feeder.join().expect("a feeder that ends");
-    match fed.map_err(|error| error.kind()) {
-        // A program that knows its answer may end before it has read all.
-        Ok(()) | Err(ErrorKind::BrokenPipe) => made,
-        Err(kind) => panic!("the input breaks off: {kind}"),
-    }
+    (made, status)
 }
 
 #[track_caller]

@@ -1,6 +1,7 @@
 use mathlib.Core.Path.{_≡_, sym, _∙_}
 use mathlib.Core.Bool.{true}
-use Rattle.volumes.specs.Stream.{isRun, held}
+use Rattle.volumes.specs.Volume.{isRun}
+use Rattle.volumes.specs.Stream.{held}
 use borrow.Author.Needs.{needs}
 use Rattle.volumes.proofs.reader.held.Statement.{statement}
 use Rattle.volumes.proofs.reader.held.Tie as tie

@@ -5,19 +5,19 @@ use borrow.Author.Needs.{needs}
 use Rattle.year_text.proofs.writer.put_named.Statement.{statement}
 use Rattle.year_text.proofs.writer.put_named.Tie as tie
 
-put-word-requires : tie.Need-put-word-requires
-put-word-requires c κs = search needs
+put-text-requires : tie.Need-put-text-requires
+put-text-requires c κs = search needs
 
 put-decimal-requires : tie.Need-put-decimal-requires
 put-decimal-requires c κs =
     let s = c .before .before .before .before .before .before .before in
-    omega (arith, c .before .before .before .put-word .ensures .long, c .before .before .before .put-word .ensures .next, at-most-20 (s .args .n))
+    omega (arith, c .before .before .before .put-text .ensures .long, c .before .before .before .put-text .ensures .next, at-most-20 (s .args .n))
 
 same-length : tie.Need-same-length
 same-length c = search needs
 
 returns : tie.Need-returns
-returns c = and-then (c .before .before .before .before .before .before .put-word .ensures) (c .before .before .put-decimal .ensures)
+returns c = and-then (c .before .before .before .before .before .before .put-text .ensures) (c .before .before .put-decimal .ensures)
 
 pub put-named-spec : {M : Type 1} → statement M
-put-named-spec = tie.close (tie.spec put-word-requires put-decimal-requires same-length returns)
+put-named-spec = tie.close (tie.spec put-text-requires put-decimal-requires same-length returns)

@@ -4,10 +4,10 @@ use native.Mathlib.Omega.{arith}
 use borrow.Author.Needs.{needs}
 use lib.ListN.{take, length-take}
 use Rattle.calendar.specs.Answers.{zeroRow}
-use Rattle.year_text.specs.Text.{rowLines}
-use Rattle.writing.specs.Written.{Wrote}
-use Rattle.writing.proofs.Writings.{wrote-none, and-then}
-use Rattle.year_text.proofs.Lengths.{lines-more, lines-length}
+use Rattle.year_text.specs.Text.{monthLine, rowLines}
+use Rattle.writing.specs.Written.{Wrote, texts}
+use Rattle.writing.proofs.Writings.{wrote-none, and-then, texts-more}
+use Rattle.year_text.proofs.Lengths.{lines-length}
 use Rattle.year_text.proofs.writer.put_rows.Statement.{statement}
 use Rattle.year_text.proofs.writer.put_rows.Tie as tie
 
@@ -18,7 +18,7 @@ abbrev μ-loop : tie.MeasureT-loop
 μ-loop out₀ at count rows end₀ i₀ out end i = count - i
 
 loop-holds : tie.Need-loop-holds Inv-loop μ-loop
-unfolding rowLines
+unfolding texts
 loop-holds c = (omega arith, wrote-none (c .before .args .out .now) (c .before .args .at))
 
 mul-row : tie.Need-mul-row Inv-loop μ-loop
@@ -44,7 +44,7 @@ loop-again c =
     let p = c .before .before in
     let l = p .before .before .before .before in
     let s = l .before .before in
-    let more = lines-more (s .args .t3) (l .loop .i) zeroRow (omega arith) in
+    let more = texts-more monthLine (s .args .t3) (l .loop .i) zeroRow (omega arith) in
     (omega arith, rw more (and-then (l .loop .inv .1) (p .put-row .ensures)))
 
 same-length : tie.Need-same-length Inv-loop μ-loop

@@ -4,7 +4,8 @@ use Prim.Native.Nat.{_+_, _-_}
 use Rattle.reckoning.proofs.Searches.{T-false, both-left}
 use Rattle.blocks.specs.Bytes.{same}
 use Rattle.volumes.specs.Volume.{blockAt}
-use Rattle.volumes.specs.Stream.{isRun, held, readOn}
+use Rattle.volumes.specs.Volume.{isRun}
+use Rattle.volumes.specs.Stream.{held, readOn}
 use Rattle.volumes.proofs.Runs.{run-of}
 use borrow.Author.Needs.{needs}
 use Rattle.volumes.proofs.reader.Reader.block.Statement.{statement}

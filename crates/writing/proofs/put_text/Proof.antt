@@ -5,16 +5,16 @@ use native.Mathlib.Omega.{arith}
 use borrow.Author.Needs.{needs}
 use lib.ListN.{length, take}
 use lib.Seq.{take-all}
 use Rattle.writing.specs.Written.{Wrote}
-use Rattle.writing.proofs.Writings.{wrote-none, wrote-to, word-more}
-use Rattle.year_text.proofs.writer.put_word.Statement.{statement}
-use Rattle.year_text.proofs.writer.put_word.Tie as tie
+use Rattle.writing.proofs.Writings.{wrote-none, wrote-to, text-more}
+use Rattle.writing.proofs.put_text.Statement.{statement}
+use Rattle.writing.proofs.put_text.Tie as tie
 
 abbrev Inv-loop : tie.InvT-loop
-Inv-loop out₀ at word i₀ out i = (i ≤ length word) × Wrote out₀ out at (at + i) (take i word)
+Inv-loop out₀ at text i₀ out i = (i ≤ length text) × Wrote out₀ out at (at + i) (take i text)
 
 abbrev μ-loop : tie.MeasureT-loop
-μ-loop out₀ at word i₀ out i = length word - i
+μ-loop out₀ at text i₀ out i = length text - i
 
 loop-holds : tie.Need-loop-holds Inv-loop μ-loop
 loop-holds c = (omega arith, wrote-to (sym (add-zero (c .args .at))) (wrote-none (c .args .out .now) (c .args .at)))
@@ -38,7 +38,7 @@ loop-again : tie.Need-loop-again Inv-loop μ-loop
 loop-again c =
     let a = c .before .before in
     let s = a .before in
-    (omega arith, word-more (s .args .out .now) (a .loop .out) (s .args .word .now) (s .args .at) (a .loop .i) (c .before .loop-test .taken) (s .pre) (a .loop .inv .1))
+    (omega arith, text-more (s .args .out .now) (a .loop .out) (s .args .text .now) (s .args .at) (a .loop .i) (c .before .loop-test .taken) (s .pre) (a .loop .inv .1))
 
 add-result : tie.Need-add-result Inv-loop μ-loop
 add-result c = search needs
@@ -48,12 +48,12 @@ same-length c = search needs
 
 returns : tie.Need-returns Inv-loop μ-loop
 returns c =
-    let whole : take (c .before .loop .i) (c .before .before .args .word .now) ≡ c .before .before .args .word .now =
-    take-all (c .before .loop .i) (c .before .before .args .word .now) (c .loop-test .left) in
+    let whole : take (c .before .loop .i) (c .before .before .args .text .now) ≡ c .before .before .args .text .now =
+    take-all (c .before .loop .i) (c .before .before .args .text .now) (c .loop-test .left) in
     rw whole at (c .before .loop .inv .1)
 
-pub put-word-spec : {M : Type 1} → statement M
-put-word-spec =
+pub put-text-spec : {M : Type 1} → statement M
+put-text-spec =
     tie.close
     (tie.spec
     Inv-loop

@@ -1,0 +1,2 @@
+pub mod FirstYear
+pub mod Mended
