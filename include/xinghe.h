@@ -1,4 +1,5 @@
-/* The Xinghe calendar of the Wei shu.
+/* The Xinghe calendar of the Wei shu; after its functions those of the Zhengguang
+ * and the Linde calendar.
  *
  * Every function takes any numbers whatever. It returns 0 where it answers and
  * writes its values to the arrays that the caller lends. Where it refuses it
@@ -324,6 +325,187 @@ uint64_t xinghe_marked(const uint8_t *volume, size_t length, uint64_t from,
  * count[0]  how many they are */
 uint64_t xinghe_mend(uint8_t *volume, size_t length,
                      uint64_t damaged[XINGHE_MOST_BLOCKS], uint64_t count[1]);
+
+/* Two further calendars beside the Xinghe. The numbers returned are those
+ * above, each given by the calendar's own years, months and days; where a
+ * function refuses it writes zeros. Places, days and days of the sixty are
+ * counted as in the Xinghe, and a calendar's months from 0 at its origin. They
+ * end before the month whose days contain the winter solstice of the year after
+ * the last.
+ *
+ *                     Zhengguang            Linde
+ * years, as written   1 to 363,600          0 to 300,000
+ * months              0 to 4,497,119        0 to 3,710,516
+ * days                0 to 132,802,619      0 to 109,573,781
+ * remainders of
+ *   new moons         over 74,952           over 1,340
+ *   solstices, cuts   over 6,060            over 1,340
+ * number returned
+ *   1                 year                  year
+ *   2                 place                 place
+ *   3                 day of the month      day of the month
+ *   4                 row                   row
+ *   5                 carry                 carry
+ *   7                 day                   day
+ *   8                 cut                   cut
+ *
+ * A point of a cut of the last year may lie past the calendar's last day. */
+
+/* How many numbers a month's row has, and how many rows a year by value. */
+enum {
+    ZHENGGUANG_ROW_NUMBERS = 10,
+    LINDE_ROW_NUMBERS = 8,
+    XINGHE_YEAR_ROWS = 13
+};
+
+/* The head of a year of the Zhengguang calendar. Refused: 1.
+ * out[0]  months of the calendar before the year: those before the month whose
+ *         days contain the day of its winter solstice
+ * out[1]  leap remainder of the chapter, over 505; it does not tell the count
+ * out[2]  month count, 12 or 13
+ * out[3]  place of the leap month, in whose days no middle term falls; 0 where
+ *         there is none
+ * out[4]  day of the winter solstice
+ * out[5]  its remainder, over 6,060 */
+uint64_t zhengguang_year_head(uint64_t year, uint64_t out[6]);
+
+/* The row of the month at a place of a year. Refused: 1, 2.
+ * out[0]  month of the calendar
+ * out[1]  year
+ * out[2]  place
+ * out[3]  month number, 1 to 12; a leap month has that of the month before it
+ * out[4]  1 for the leap month, else 0
+ * out[5]  first day
+ * out[6]  small remainder of the new moon, over 74,952
+ * out[7]  length, 29 or 30 days
+ * of the new moon, as zhengguang_nodes has them
+ * out[8]  degrees since the last node
+ * out[9]  their remainder, over 74,952 */
+uint64_t zhengguang_month_row(uint64_t year, uint64_t place,
+                              uint64_t out[ZHENGGUANG_ROW_NUMBERS]);
+
+/* The day of a date; days of a month are counted from 1. Refused: 1, 2, 3.
+ * out[0]  day number
+ * out[1]  day of the sixty, 1 to 60; jiazi is 1 */
+uint64_t zhengguang_day_of_date(uint64_t year, uint64_t place, uint64_t day,
+                                uint64_t out[2]);
+
+/* The date of a day. Refused: 7.
+ * out[0]  year
+ * out[1]  place
+ * out[2]  day of the month, from 1 */
+uint64_t zhengguang_date_of_day(uint64_t number, uint64_t out[3]);
+
+/* The row so many months on, or back where the count is negative. The row is
+ * handed in as zhengguang_month_row writes it. Refused: 4, 5.
+ * out     the row reached, as zhengguang_month_row writes it */
+uint64_t zhengguang_carry(const uint64_t row[ZHENGGUANG_ROW_NUMBERS],
+                          int64_t count, uint64_t out[ZHENGGUANG_ROW_NUMBERS]);
+
+/* A row carried by each of the counts in turn; a count that would lead outside
+ * the calendar is passed over. Refused: 4.
+ * counts     the counts, of which there are `length`
+ * out        the last row, as zhengguang_month_row writes it
+ * totals[0]  1 where the sum of the answered counts is below 0, else 0
+ * totals[1]  the size of that sum
+ * totals[2]  how many counts were answered */
+uint64_t zhengguang_walk(const uint64_t row[ZHENGGUANG_ROW_NUMBERS],
+                         const int64_t *counts, size_t length,
+                         uint64_t out[ZHENGGUANG_ROW_NUMBERS],
+                         uint64_t totals[3]);
+
+/* A year by value. Refused: 1.
+ * head     its head, as zhengguang_year_head writes it
+ * rows[i]  the row at place i, as zhengguang_month_row writes it; all zeros
+ *          where the year has no such place */
+uint64_t
+zhengguang_year(uint64_t year, uint64_t head[6],
+                uint64_t rows[XINGHE_YEAR_ROWS][ZHENGGUANG_ROW_NUMBERS]);
+
+/* A point of a cut of the year: 24 terms, 72 pentads or 60 hexagram days, from
+ * the winter solstice at index 0. Refused: 1, 8.
+ * out[0]  day
+ * out[1]  remainder, over 6,060
+ * out[2]  rest of a part, over the cut */
+uint64_t zhengguang_cut_point(uint64_t year, uint64_t cut, uint64_t index,
+                              uint64_t out[3]);
+
+/* The moon's distances since the last node, of a month. Refused: 1, 2.
+ * new moon
+ * out[0]  degrees
+ * out[1]  their remainder, over 74,952
+ * out[2]  and half a part more: always 0
+ * full moon, half a month later
+ * out[3]  degrees
+ * out[4]  their remainder, over 74,952
+ * out[5]  and half a part more: always 1, since P is odd */
+uint64_t zhengguang_nodes(uint64_t year, uint64_t place, uint64_t out[6]);
+
+/* The head of a year of the Linde calendar, which has no chapter. Refused: 1.
+ * out[0]  months of the calendar before the year: those before the month whose
+ *         days contain the day of its winter solstice
+ * out[1]  month count, 12 or 13
+ * out[2]  place of the leap month, in whose days no middle term falls; 0 where
+ *         there is none
+ * out[3]  day of the winter solstice
+ * out[4]  its remainder, over 1,340 */
+uint64_t linde_year_head(uint64_t year, uint64_t out[5]);
+
+/* The row of the month at a place of a year. Refused: 1, 2.
+ * out[0]  month of the calendar
+ * out[1]  year
+ * out[2]  place
+ * out[3]  month number, 1 to 12; a leap month has that of the month before it
+ * out[4]  1 for the leap month, else 0
+ * out[5]  first day
+ * out[6]  small remainder of the new moon, over 1,340
+ * out[7]  length, 29 or 30 days */
+uint64_t linde_month_row(uint64_t year, uint64_t place,
+                         uint64_t out[LINDE_ROW_NUMBERS]);
+
+/* The day of a date; days of a month are counted from 1. Refused: 1, 2, 3.
+ * out[0]  day number
+ * out[1]  day of the sixty, 1 to 60; jiazi is 1 */
+uint64_t linde_day_of_date(uint64_t year, uint64_t place, uint64_t day,
+                           uint64_t out[2]);
+
+/* The date of a day. Refused: 7.
+ * out[0]  year
+ * out[1]  place
+ * out[2]  day of the month, from 1 */
+uint64_t linde_date_of_day(uint64_t number, uint64_t out[3]);
+
+/* The row so many months on, or back where the count is negative. The row is
+ * handed in as linde_month_row writes it. Refused: 4, 5.
+ * out     the row reached, as linde_month_row writes it */
+uint64_t linde_carry(const uint64_t row[LINDE_ROW_NUMBERS], int64_t count,
+                     uint64_t out[LINDE_ROW_NUMBERS]);
+
+/* A row carried by each of the counts in turn; a count that would lead outside
+ * the calendar is passed over. Refused: 4.
+ * counts     the counts, of which there are `length`
+ * out        the last row, as linde_month_row writes it
+ * totals[0]  1 where the sum of the answered counts is below 0, else 0
+ * totals[1]  the size of that sum
+ * totals[2]  how many counts were answered */
+uint64_t linde_walk(const uint64_t row[LINDE_ROW_NUMBERS],
+                    const int64_t *counts, size_t length,
+                    uint64_t out[LINDE_ROW_NUMBERS], uint64_t totals[3]);
+
+/* A year by value. Refused: 1.
+ * head     its head, as linde_year_head writes it
+ * rows[i]  the row at place i, as linde_month_row writes it; all zeros where
+ *          the year has no such place */
+uint64_t linde_year(uint64_t year, uint64_t head[5],
+                    uint64_t rows[XINGHE_YEAR_ROWS][LINDE_ROW_NUMBERS]);
+
+/* A point of a cut of the year: 24 terms, 72 pentads or 60 hexagram days, from
+ * the winter solstice at index 0. Refused: 1, 8.
+ * out[0]  day
+ * out[1]  remainder, over 1,340
+ * out[2]  rest of a part, over the cut */
+uint64_t linde_cut_point(uint64_t year, uint64_t cut, uint64_t index,
+                         uint64_t out[3]);
 
 #ifdef __cplusplus
 }

@@ -10,6 +10,7 @@ use Rattle.reckoning.specs.Rule.{Rule, isLeap, monthNumber, yearOf, placeOf}
 use Rattle.reckoning.proofs.Leaps.{Common, Long, two-kinds}
 use Rattle.lunisolar.specs.Names.{nameOf}
 use lib.Dec.{leb}
+use Rattle.mean_calendar.specs.Months.{monthOf}
 use Rattle.units.specs.Xinghe.{rule, longFrom, roundMonths}
 use Rattle.units.specs.declared.remainder.DayRemainder.{DayRemainder}
 use Rattle.units.proofs.Sound.{laws}
@@ -19,7 +20,7 @@ use Rattle.calendar.specs.Rows.{rowOf}
 use Rattle.calendar.specs.Answers.{headValues, rowValues}
 use Rattle.calendar.specs.declared.HeadAnswer.{HeadAnswer}
 use Rattle.calendar.specs.declared.MonthRow.{MonthRow}
-use Rattle.calendar.proofs.Round.{head-leap, head-row}
+use Rattle.calendar.proofs.Round.{head-leap, head-row, row-length-by}
 use Rattle.calendar.proofs.Steps.{elements-bound}
 use Rattle.year_list.specs.Filled.{rowAt}
 use Rattle.year_list.proofs.Fronts.{has-head, month-in-round}
@@ -66,7 +67,7 @@ pub record RowFits (row : MonthRow) : Type 0 where
   pub number : row .number < 256
 
 pub row-fits : (n p : ℕ) → p < monthsOf n → RowFits (rowAt n p)
-unfolding rowOf nameOf
+unfolding rowOf nameOf monthOf newMoonOf
 row-fits n p h =
     let a = yearHead n in
     let m : ℕ = headValues a .before + p in
@@ -78,6 +79,6 @@ row-fits n p h =
       lunation = omega (arith, inside);
       day = e .day;
       remainder = omega (arith, e .remainder);
-      length = length-fits (newMoonOf m .remainder);
+      length = rw (row-length-by m) (length-fits (rowOf m .remainder));
       number = omega (arith, number-fits rule (yearOf rule m) (placeOf rule m));
     })

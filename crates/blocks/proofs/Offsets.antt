@@ -9,7 +9,7 @@ use native.Mathlib.Omega.{arith}
 use lib.ListN.{length, take, getD, length-append, length-replicate, List·getD-append}
 use lib.Seq.{getD-append-add}
 use Rattle.calendar.specs.Heads.{yearHead}
-use Rattle.calendar.specs.Rows.{bitOf}
+use Rattle.walking.specs.Fields.{bitOf}
 use Rattle.calendar.specs.Answers.{headValues}
 use Rattle.calendar.specs.declared.MonthRow.{MonthRow}
 use Rattle.year_list.specs.Filled.{rowAt}

@@ -11,7 +11,7 @@ use lib.ListN.{length, getD, List·getD-append}
 use lib.Seq.{getD-append-add}
 use Rattle.reckoning.proofs.Searches.{le-or-lt}
 use Rattle.calendar.specs.Heads.{yearHead}
-use Rattle.calendar.specs.Rows.{bitOf}
+use Rattle.walking.specs.Fields.{bitOf}
 use Rattle.calendar.specs.Answers.{headValues}
 use Rattle.calendar.specs.declared.YearHead.{YearHead}
 use Rattle.calendar.specs.declared.MonthRow.{MonthRow}

@@ -3,7 +3,7 @@
 use mathlib.Core.List.{List, [], _∷_, _++_}
 use Prim.Native.Nat.{ℕ, zero, suc, _-_, _*_, _%_}
 use Rattle.calendar.specs.Heads.{yearHead}
-use Rattle.calendar.specs.Rows.{bitOf}
+use Rattle.walking.specs.Fields.{bitOf}
 use Rattle.calendar.specs.Answers.{headValues}
 use Rattle.calendar.specs.declared.YearHead.{YearHead}
 use Rattle.calendar.specs.declared.MonthRow.{MonthRow}

@@ -6,6 +6,7 @@ use native.Mathlib.Omega.{arith}
 use Rattle.reckoning.specs.Rule.{monthCount}
 use Rattle.reckoning.proofs.Leaps.{year-low, year-ends}
 use Rattle.lunisolar.proofs.Laws.{lunation-at}
+use Rattle.mean_calendar.specs.Months.{monthOf}
 use Rattle.units.specs.Xinghe.{xinghe, rule, eraYears, eraMonths, roundMonths}
 use Rattle.units.proofs.Sound.{laws}
 use Rattle.node.specs.Eclipses.{distanceOf}
@@ -27,21 +28,21 @@ era-row e h =
 
 -- AT AN ERA'S HEAD THE ROW HAS THE TABLE'S DISTANCE, in degrees and remainder
 pub era-distance : (e : ℕ) → e < 6 → (rowOf (e * eraMonths) .degrees ≡ headIn e .degrees) × (rowOf (e * eraMonths) .residue .parts ≡ headIn e .remainder)
-unfolding rowOf distanceOf
+unfolding rowOf distanceOf monthOf
 era-distance =
     each-era (λ (e : ℕ). (rowOf (e * eraMonths) .degrees ≡ headIn e .degrees) × (rowOf (e * eraMonths) .residue .parts ≡ headIn e .remainder))
     (refl, refl) (refl, refl) (refl, refl) (refl, refl) (refl, refl) (refl, refl)
 
 -- AND THE TABLE'S SIDE, but month 0, which stands at the node
 pub era-row-side : (e : ℕ) → e < 6 → 0 < e → rowOf (e * eraMonths) .side ≡ headIn e .side
-unfolding rowOf
+unfolding rowOf monthOf
 era-row-side e a b = era-side e a b
 
 pub first-side : rowOf 0 .side ≡ Side.AtNode
-unfolding rowOf
+unfolding rowOf monthOf
 first-side = month-0
 
 -- MONTH 0 ALONE IS AT THE NODE
 pub first-alone : (m : ℕ) → m < roundMonths → rowOf m .side ≡ Side.AtNode → m ≡ 0
-unfolding rowOf
+unfolding rowOf monthOf
 first-alone m h e = at-node-alone m h e

@@ -5,37 +5,33 @@ use mathlib.Core.Bool.{Bool, true, false}
 use mathlib.Core.List.{List}
 use Prim.Native.Nat.{ℕ, _≤_, _<_}
 use native.Mathlib.Omega.{arith}
-use borrow.Author.Tests.{ltb-true}
-use lib.Dec.{ltb, eqb, eqb→eq}
 use lib.IntN.{ℤ, pos, natAbs, _+ℤ_}
 use lib.ListN.{length, getD}
-use lib.Seq.{ext-getD}
 use Rattle.reckoning.specs.Search.{pick}
-use Rattle.reckoning.proofs.Searches.{all-at}
 use Rattle.refusal.specs.declared.Refusal.{Refusal}
+use Rattle.mean_calendar.specs.Months.{monthOf}
 use Rattle.units.specs.Xinghe.{roundMonths}
 use Rattle.walking.specs.Walk.{answered, refused, inRound}
-use Rattle.walking.proofs.Walks.{and-both, row-genuine}
+use Rattle.walking.specs.Fields.{namedMonth}
+use Rattle.walking.proofs.Walks.{row-genuine}
+use Rattle.walking.proofs.Bits.{bit-most}
+use Rattle.walking.proofs.HandedIn as handed
 use Rattle.node.specs.Sides.{sideNumber}
 use Rattle.node.specs.declared.Side.{Side}
-use Rattle.calendar.specs.Rows.{bitOf, fieldCount, rowFields, rowOf}
+use Rattle.calendar.specs.Rows.{fieldCount, rowFields, rowOf}
 use Rattle.calendar.specs.Answers.{rowNumber}
-use Rattle.calendar.specs.Carries.{sameFields, months, shown, carried, namedMonth, genuineFields, carriedFields}
+use Rattle.calendar.specs.Carries.{months, shown, carried, genuineFields, carriedFields}
 use Rattle.calendar.specs.declared.MonthRow.{MonthRow}
 use Rattle.calendar.proofs.Lawful.{lawful}
 
 -- EVERY MONTH'S OWN NUMBERS ARE GENUINE
 pub row-is-genuine : (m : ℕ) → m < roundMonths → genuineFields (rowFields (rowOf m)) ≡ true
-unfolding rowOf
+unfolding rowOf monthOf
 row-is-genuine m h = row-genuine months lawful m h
 
 -- A ROW HANDED IN AS ITS NUMBERS IS CARRIED AS THE ROW IS
 pub carry-handed-in : (r : MonthRow) (c : ℤ) → carriedFields (rowFields r) c ≡ carried r c
 carry-handed-in r c = refl
-
-bit-most : (b : Bool) → bitOf b ≤ 1
-bit-most true = omega arith
-bit-most false = omega arith
 
 side-most : (s : Side) → sideNumber s ≤ 2
 side-most Side.AtNode = omega arith
@@ -43,22 +39,9 @@ side-most Side.Outside = omega arith
 side-most Side.Inside = omega arith
 
 module _ (f : List ℕ) where
-  -- the row of the month that the numbers name
-  abbrev own : List ℕ
-  own = rowFields (rowOf (namedMonth f))
-
-  in-round : genuineFields f ≡ true → namedMonth f < roundMonths
-  in-round g = ltb-true (namedMonth f) roundMonths (and-both (ltb (namedMonth f) roundMonths) (sameFields f own) g .0)
-
-  same-at : genuineFields f ≡ true → (i : ℕ) → i < fieldCount → getD f i 0 ≡ getD own i 0
-  unfolding sameFields
-  same-at g i h =
-      let same = and-both (ltb (namedMonth f) roundMonths) (sameFields f own) g .1 in
-      eqb→eq (getD f i 0) (getD own i 0) (all-at (λ (j : ℕ). eqb (getD f j 0) (getD own j 0)) fieldCount (rw same tt) i h)
-
   -- GENUINE NUMBERS ARE, EVERY ONE OF THEM, THOSE OF THE ROW OF THE MONTH OF THE ROUND THAT THEY NAME
-  pub genuine-is-row : length f ≡ fieldCount → genuineFields f ≡ true → (namedMonth f < roundMonths) × (f ≡ own)
-  genuine-is-row l g = (in-round g, ext-getD 0 f own l (λ i h. same-at g i (rw l at h)))
+  pub genuine-is-row : length f ≡ fieldCount → genuineFields f ≡ true → (namedMonth f < roundMonths) × (f ≡ rowFields (rowOf (namedMonth f)))
+  genuine-is-row l g = handed.genuine-is-row months fieldCount rowFields f l refl g
 
   -- REFUSED UNDER 4 EXACTLY WHERE THEY ARE NOT GENUINE, then under 5 exactly where the count leads outside the round
   pub carry-numbers : (c : ℤ) → rowNumber (carriedFields f c) ≡ pick (genuineFields f) (pick (inRound roundMonths (pos (namedMonth f) +ℤ c)) 0 5) 4
@@ -69,16 +52,13 @@ module _ (f : List ℕ) where
       go true false = refl
       go false i = refl
 
-  not-genuine : (genuineFields f ≡ true → ⊥) → genuineFields f ≡ false
-  not-genuine h = go (genuineFields f) refl
-    where
-      go : (b : Bool) → genuineFields f ≡ b → genuineFields f ≡ false
-      go true e = absurd (h e)
-      go false e = e
-
   -- A LEAP MARK OTHER THAN 0 AND 1, OR A SIDE OTHER THAN 0, 1 AND 2, IS NO GENUINE ROW'S
   pub forged-mark : 1 < getD f 4 0 → genuineFields f ≡ false
-  forged-mark h = not-genuine (λ g. omega (arith, h, same-at g 4 (omega arith), bit-most (rowOf (namedMonth f) .leap)))
+  forged-mark h =
+      handed.not-genuine months fieldCount rowFields f
+      (λ g. omega (arith, h, handed.same-at months fieldCount rowFields f g 4 (omega arith), bit-most (rowOf (namedMonth f) .leap)))
 
   pub forged-side : 2 < getD f 10 0 → genuineFields f ≡ false
-  forged-side h = not-genuine (λ g. omega (arith, h, same-at g 10 (omega arith), side-most (rowOf (namedMonth f) .side)))
+  forged-side h =
+      handed.not-genuine months fieldCount rowFields f
+      (λ g. omega (arith, h, handed.same-at months fieldCount rowFields f g 10 (omega arith), side-most (rowOf (namedMonth f) .side)))

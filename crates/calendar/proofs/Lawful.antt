@@ -1,7 +1,7 @@
 -- The months of the round keep the laws that walks ask, so every theorem of the crate `walking` holds of them.
 -- Assumes nothing.
 use mathlib.Core.Path.{_≡_, _∙_, refl, sym, ap}
-use mathlib.Core.Bool.{Bool, true, false}
+use mathlib.Core.Bool.{true}
 use Prim.Native.Nat.{ℕ}
 use native.Mathlib.Omega.{arith}
 use borrow.Author.Tests.{eq-eqb}
@@ -10,23 +10,18 @@ use lib.ListN.{getD}
 use Rattle.reckoning.specs.Search.{pick}
 use Rattle.reckoning.proofs.Searches.{all-at}
 use Rattle.walking.specs.Walk.{Answer, answered, refused}
+use Rattle.walking.specs.Fields.{bitOf, sameFields}
 use Rattle.walking.proofs.Walks.{Lawful}
-use Rattle.refusal.specs.declared.Refusal.{Refusal}
+use Rattle.walking.proofs.Bits.{bit-eq}
+use Rattle.mean_calendar.specs.Months.{monthOf}
 use Rattle.node.specs.Sides.{sideNumber}
 use Rattle.node.specs.declared.Side.{Side}
-use Rattle.calendar.specs.Rows.{bitOf, fieldCount, rowFields, rowOf}
-use Rattle.calendar.specs.Carries.{sameFields, months, shown}
+use Rattle.calendar.specs.Rows.{fieldCount, rowFields, rowOf}
+use Rattle.calendar.specs.Carries.{months, shown}
 use Rattle.calendar.specs.declared.MonthRow.{MonthRow}
 use Rattle.calendar.specs.declared.RowAnswer.{RowAnswer}
 
--- a field that is no number is told by its number
-bit-eq : (a b : Bool) → bitOf a ≡ bitOf b → a ≡ b
-bit-eq a b e = told a ∙ ap (λ (n : ℕ). eqb n 1) e ∙ sym (told b)
-  where
-    told : (b : Bool) → b ≡ eqb (bitOf b) 1
-    told true = refl
-    told false = refl
-
+-- a side is told by its number
 side-eq : (s t : Side) → sideNumber s ≡ sideNumber t → s ≡ t
 side-eq s t e = told s ∙ ap numbered e ∙ sym (told t)
   where
@@ -66,14 +61,12 @@ same-eq r s e =
     }
 
 pub lawful : Lawful months
-unfolding rowOf
+unfolding rowOf monthOf
 lawful = record { month-row = λ m h. refl; same-refl = same-refl; same-eq = same-eq }
 
 -- an answer as the code returns it loses nothing
-pub shown-answered : (a : Answer MonthRow) (r : MonthRow) → RowAnswer.Answered r ≡ shown a → a ≡ answered r
-shown-answered (answered s) r e = cc
-shown-answered (refused k) r e = cc
-
-pub shown-refused : (a : Answer MonthRow) (k : Refusal) → RowAnswer.Refused k ≡ shown a → a ≡ refused k
-shown-refused (answered s) k e = cc
-shown-refused (refused j) k e = cc
+pub lossless : (a b : Answer MonthRow) → shown a ≡ shown b → a ≡ b
+lossless (answered r) (answered s) e = cc
+lossless (answered r) (refused e) q = cc
+lossless (refused e) (answered s) q = cc
+lossless (refused e) (refused f) q = cc

@@ -14,6 +14,7 @@ use Rattle.reckoning.proofs.Leaps as leaps
 use Rattle.reckoning.proofs.Leaps.{one-term, leap-holds-none, Common, Long, two-kinds}
 use Rattle.reckoning.proofs.Chapters.{chapter-division}
 use Rattle.reckoning.proofs.Days.{day-laws, term-after}
+use Rattle.mean_calendar.specs.Months.{monthOf}
 use Rattle.sun.specs.Solstices.{solsticeOf}
 use Rattle.sun.specs.Points.{pointOf}
 use Rattle.moon.specs.NewMoons.{newMoonOf}
@@ -88,7 +89,7 @@ module _ (n : ℕ) (head : YearHead) (e : HeadAnswer.Answered head ≡ yearHead 
 
 -- but not the converse: the term of year 1's second month falls on that month's second day, and the month before it is no leap month
 pub not-the-converse : T (rule .holds 1 1) × (termDay means 1 ≡ rowOf 1 .day + 1) × ¬ (T (isLeap rule 0 0))
-unfolding byDays termIn newMoon termDay between isLeap any rowOf newMoonOf
+unfolding byDays termIn newMoon termDay between isLeap any rowOf newMoonOf monthOf
 not-the-converse = (tt, refl, λ t. t)
 
 -- each month holds at most one middle term

@@ -1,4 +1,3 @@
-pub mod Bits
 pub mod Round
 pub mod Steps
 pub mod LeapMonths

@@ -3,9 +3,10 @@
 use mathlib.Core.Path.{_≡_, _∙_, sym, ap}
 use Prim.Native.Nat.{ℕ, suc, _<_}
 use Rattle.lunisolar.proofs.Rounds as rounds
+use Rattle.mean_calendar.specs.Months.{monthOf}
 use Rattle.units.specs.Xinghe.{xinghe, roundMonths}
 use Rattle.units.proofs.Sound.{sound}
-use Rattle.moon.specs.NewMoons.{monthlyAddition}
+use Rattle.moon.specs.NewMoons.{newMoonOf, monthlyAddition}
 use Rattle.moon.specs.declared.NewMoon.{NewMoon}
 use Rattle.moon.proofs.Addition.{next-new-moon}
 use Rattle.calendar.specs.Rows.{rowOf, rowFor, monthRow}
@@ -15,12 +16,12 @@ use Rattle.calendar.proofs.Round.{row-found}
 
 -- a month's row is the row at its year and place
 pub month-to-place : (m : ℕ) → m < roundMonths → monthRow (rowOf m .year) (rowOf m .place) ≡ RowAnswer.Answered (rowOf m)
-unfolding rowOf rowFor
+unfolding rowOf rowFor monthOf
 month-to-place m h = ap rowFor (rounds.month-to-place xinghe sound m h)
 
 -- a row that is answered for a year and a place has that year and that place
 pub place-to-month : (n p : ℕ) (row : MonthRow) → monthRow n p ≡ RowAnswer.Answered row → (row .year ≡ n) × (row .place ≡ p) × (row .lunation < roundMonths)
-unfolding rowOf
+unfolding rowOf monthOf
 place-to-month n p row e =
     let f = row-found n p row (sym e) in
     let r = f .is-row in
@@ -35,5 +36,5 @@ abbrev pub moonOf : MonthRow → NewMoon
 moonOf row = record { day = row .day; remainder = row .remainder }
 
 pub monthly : (m : ℕ) → suc m < roundMonths → moonOf (rowOf (suc m)) ≡ monthlyAddition (moonOf (rowOf m))
-unfolding rowOf
+unfolding rowOf monthOf newMoonOf
 monthly m h = next-new-moon m

@@ -1,23 +1,18 @@
 -- The numbers returned (01, "Numbers returned"), as equations on all inputs, the lowest that applies first; and zero values with each refusal.
 -- Assumes nothing.
-use mathlib.Core.Path.{_≡_, _∙_, refl, ap}
+use mathlib.Core.Path.{_≡_, refl}
 use mathlib.Core.Bool.{Bool}
 use Prim.Native.Nat.{ℕ, suc, _+_, _-_}
 use lib.Dec.{ltb}
 use Rattle.reckoning.specs.Search.{pick, between}
 use Rattle.reckoning.specs.Rule.{monthCount}
-use Rattle.reckoning.specs.Means.{newMoon}
-use Rattle.reckoning.specs.Dates.{monthOf}
-use Rattle.reckoning.proofs.Searches.{through}
 use Rattle.refusal.specs.declared.Refusal.{Refusal}
-use Rattle.lunisolar.specs.Calendars.{lunationFor, lunationAt}
-use Rattle.lunisolar.specs.Dates as dates
-use Rattle.lunisolar.specs.Dates.{dayOf, monthDays, dayIn, dayFor, dateIn}
-use Rattle.lunisolar.specs.Answers.{dayNumber, dayValues, zeroDay, dateNumber, dateValues, zeroDate}
+use Rattle.lunisolar.specs.Calendars.{lunationAt}
+use Rattle.lunisolar.specs.Dates.{monthDays}
+use Rattle.lunisolar.specs.Answers.{dayNumber, dateNumber}
 use Rattle.lunisolar.specs.declared.LunationAnswer.{LunationAnswer}
-use Rattle.lunisolar.specs.declared.dates.DayAnswer.{DayAnswer}
-use Rattle.lunisolar.specs.declared.dates.DateAnswer.{DateAnswer}
-use Rattle.units.specs.Xinghe.{xinghe, means, rule, roundDays, isYear}
+use Rattle.lunisolar.proofs.Numbers as numbers
+use Rattle.units.specs.Xinghe.{xinghe, rule, roundDays, isYear}
 use Rattle.units.proofs.Years.{of-year}
 use Rattle.calendar.specs.Heads.{headFor, yearHead}
 use Rattle.calendar.specs.Rows.{rowFor, monthRow}
@@ -35,14 +30,9 @@ abbrev pub isDay : ℕ → ℕ → ℕ → Bool
 isDay n p i = between 1 i (suc (monthDays xinghe (rule .before (n - 1) + p)))
 
 -- what is made of a year that is sought, and of a place in it
-module _ {B : Type 0} (f : LunationAnswer → B) where
-  pub of-place : (n p : ℕ) → f (lunationAt xinghe n p) ≡
-      pick (isYear n) (pick (isPlace n p) (f (LunationAnswer.Lunation (rule .before (n - 1) + p))) (f (LunationAnswer.Refused Refusal.Place))) (f (LunationAnswer.Refused Refusal.Year))
-  unfolding lunationFor
-  of-place n p =
-      of-year (λ a. f (lunationFor xinghe a p)) n
-      ∙ ap (λ (x : B). pick (isYear n) x (f (LunationAnswer.Refused Refusal.Year)))
-      (through f (isPlace n p) (LunationAnswer.Lunation (rule .before (n - 1) + p)) (LunationAnswer.Refused Refusal.Place))
+pub of-place : {B : Type 0} (f : LunationAnswer → B) (n p : ℕ) → f (lunationAt xinghe n p) ≡
+    pick (isYear n) (pick (isPlace n p) (f (LunationAnswer.Lunation (rule .before (n - 1) + p))) (f (LunationAnswer.Refused Refusal.Place))) (f (LunationAnswer.Refused Refusal.Year))
+of-place f n p = numbers.of-place xinghe f n p
 
 pub head-numbers : (n : ℕ) → headNumber (yearHead n) ≡ pick (isYear n) 0 1
 unfolding headFor
@@ -53,15 +43,10 @@ unfolding rowFor
 row-numbers n p = of-place (λ a. rowNumber (rowFor a)) n p
 
 pub day-numbers : (n p i : ℕ) → dayNumber (dayOfDate n p i) ≡ pick (isYear n) (pick (isPlace n p) (pick (isDay n p i) 0 3) 2) 1
-unfolding dayFor dayIn
-day-numbers n p i =
-    of-place (λ a. dayNumber (dayFor xinghe a i)) n p
-    ∙ ap (λ (x : ℕ). pick (isYear n) (pick (isPlace n p) x 2) 1)
-    (through dayNumber (isDay n p i) (DayAnswer.Answered (dayOf (newMoon means (rule .before (n - 1) + p) + (i - 1)))) (DayAnswer.Refused Refusal.DayOfMonth))
+day-numbers = numbers.day-numbers xinghe
 
 pub date-numbers : (d : ℕ) → dateNumber (dateOfDay d) ≡ pick (ltb d roundDays) 0 7
-unfolding dates.dateOfDay
-date-numbers d = through dateNumber (ltb d roundDays) (DateAnswer.Answered (dateIn xinghe (monthOf (newMoon means) d) d)) (DateAnswer.Refused Refusal.Day)
+date-numbers = numbers.date-numbers xinghe
 
 -- where the number is not 0, the values are all zero
 pub head-zero : (a : HeadAnswer) → ¬ (headNumber a ≡ 0) → headValues a ≡ zeroHead
@@ -71,11 +56,3 @@ head-zero (HeadAnswer.Refused e) h = refl
 pub row-zero : (a : RowAnswer) → ¬ (rowNumber a ≡ 0) → rowValues a ≡ zeroRow
 row-zero (RowAnswer.Answered x) h = absurd (h refl)
 row-zero (RowAnswer.Refused e) h = refl
-
-pub day-zero : (a : DayAnswer) → ¬ (dayNumber a ≡ 0) → dayValues a ≡ zeroDay
-day-zero (DayAnswer.Answered x) h = absurd (h refl)
-day-zero (DayAnswer.Refused e) h = refl
-
-pub date-zero : (a : DateAnswer) → ¬ (dateNumber a ≡ 0) → dateValues a ≡ zeroDate
-date-zero (DateAnswer.Answered x) h = absurd (h refl)
-date-zero (DateAnswer.Refused e) h = refl

@@ -7,17 +7,17 @@ use lib.Dec.{T}
 use Rattle.reckoning.specs.Rule.{leapPlace, yearOf}
 use Rattle.reckoning.specs.Means.{newMoon}
 use Rattle.reckoning.proofs.Searches.{between-low, between-high}
-use Rattle.reckoning.proofs.Moons.{length-by}
 use Rattle.reckoning.proofs.Days.{year-of-month}
 use Rattle.lunisolar.specs.Calendars.{Stands, yearAt, lunationAt}
 use Rattle.lunisolar.specs.Dates.{monthDays}
 use Rattle.lunisolar.specs.declared.YearAnswer.{YearAnswer}
 use Rattle.lunisolar.specs.declared.LunationAnswer.{LunationAnswer}
 use Rattle.lunisolar.proofs.Laws.{count-bound, year-at, year-found, lunation-at}
-use Rattle.lunisolar.proofs.Days.{next-day}
+use Rattle.lunisolar.proofs.Days.{next-day, length-is}
+use Rattle.mean_calendar.specs.Months.{monthOf}
 use Rattle.units.specs.Xinghe.{D, P, xinghe, means, rule, roundYears, roundMonths, roundDays, isYear}
 use Rattle.units.proofs.Sound.{sound}
-use Rattle.moon.specs.NewMoons.{newMoonOf, lengthOf}
+use Rattle.moon.specs.NewMoons.{lengthOf}
 use Rattle.calendar.specs.Heads.{headOf, headFor, yearHead}
 use Rattle.calendar.specs.Answers.{headValues}
 use Rattle.calendar.specs.declared.YearHead.{YearHead}
@@ -37,17 +37,22 @@ round-days = sound .days
 pub year-closed : (m : ℕ) → yearOf rule m ≡ (newMoon means (suc m) * D - 1) / P
 year-closed m = year-of-month means (sound .moon) (sound .sun) m
 
--- A ROW'S DAY IS ITS MONTH'S FIRST, AND ITS LENGTH, by the small remainder, IS THE DAYS UNTIL THE NEXT MONTH BEGINS
+-- A ROW'S DAY IS ITS MONTH'S FIRST, AND ITS LENGTH THE DAYS UNTIL THE NEXT MONTH BEGINS
 pub row-day : (m : ℕ) → rowOf m .day ≡ newMoon means m
-unfolding rowOf newMoonOf
+unfolding rowOf monthOf
 row-day m = refl
 
-pub row-end : (m : ℕ) → rowOf m .day + rowOf m .length ≡ newMoon means (suc m)
-unfolding rowOf newMoonOf lengthOf
-row-end m = length-by means (sound .moon) m
-
 pub row-length : (m : ℕ) → rowOf m .length ≡ monthDays xinghe m
-row-length m = omega (arith, row-day m, row-end m, next-day xinghe sound m)
+unfolding rowOf monthOf
+row-length m = refl
+
+pub row-end : (m : ℕ) → rowOf m .day + rowOf m .length ≡ newMoon means (suc m)
+row-end m = omega (arith, row-day m, row-length m, next-day xinghe sound m)
+
+-- ITS LENGTH IS 01'S: 30 days where its small remainder is 97,883 or more, otherwise 29
+pub row-length-by : (m : ℕ) → rowOf m .length ≡ lengthOf (rowOf m .remainder)
+unfolding rowOf monthOf lengthOf
+row-length-by m = sym (length-is xinghe sound m)
 
 -- a row that is answered is that of the month that stands there
 pub record RowFound (n p : ℕ) (row : MonthRow) : Type 0 where

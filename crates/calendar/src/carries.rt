@@ -1,27 +1,13 @@
 // A row carried by a signed count of months.
 use crate::MonthRow;
 use crate::RowAnswer;
-use crate::rows::FIELDS;
 use crate::rows::RowFields;
-use refusal::Refusal;
 use units::Xinghe;
-use walking::Target;
+use walking::Landing;
+use walking::fields::same_fields;
 ghost use mathlib.Core.Path.{_≡_};
 ghost use lib.IntN.{pos, negsuc};
-ghost use Rattle.calendar.specs.Carries.{sameFields, carried, genuineFields, carriedFields};
-
-// Whether two rows have the same number at each place.
-fn same_fields(a: &RowFields, b: &RowFields) -> bool
-    ensures { λ r. ⌜ r ≡ sameFields (now (a .entry)) (now (b .entry)) ⌝ }
-{
-    let mut same = true;
-    let mut i = 0;
-    while i < FIELDS {
-        same = (a[i] == b[i]) & same;
-        i += 1;
-    }
-    same
-}
+ghost use Rattle.calendar.specs.Carries.{carried, genuineFields, carriedFields};
 
 // Whether a row is that of the month of the round that it names.
 pub fn is_genuine(fields: &RowFields) -> bool
@@ -39,13 +25,10 @@ pub fn is_genuine(fields: &RowFields) -> bool
 pub fn carry_fields(fields: &RowFields, count: i64) -> RowAnswer
     ensures { λ r. ⌜ r ≡ carriedFields (now (fields .entry)) count ⌝ }
 {
-    if is_genuine(fields) {
-        match walking::reach(Xinghe::MONTHS, fields[0], count) {
-            Target::Month(k) => RowAnswer::Answered(crate::rows::row_of(k)),
-            Target::Outside => RowAnswer::Refused(Refusal::Carry),
-        }
-    } else {
-        RowAnswer::Refused(Refusal::Row)
+    let genuine = is_genuine(fields);
+    match walking::land(Xinghe::MONTHS, genuine, fields[0], count) {
+        Landing::Month(m) => RowAnswer::Answered(crate::rows::row_of(m)),
+        Landing::Refused(e) => RowAnswer::Refused(e),
     }
 }
 

@@ -1,5 +1,4 @@
 // Dates and day numbers.
-use lunisolar::LunationAnswer;
 use lunisolar::dates::DateAnswer;
 use lunisolar::dates::DayAnswer;
 use refusal::Refusal;
@@ -10,10 +9,8 @@ ghost use Rattle.calendar.specs.Dates.{dayOfDate, dateOfDay};
 pub fn day_of_date(year: u64, place: u64, day: u64) -> DayAnswer
     ensures { λ r. ⌜ r ≡ dayOfDate year place day ⌝ }
 {
-    match Xinghe::lunation_at(year, place) {
-        LunationAnswer::Lunation(m) => lunisolar::dates::day_in(Xinghe::constants(), m, day),
-        LunationAnswer::Refused(e) => DayAnswer::Refused(e),
-    }
+    let month = Xinghe::lunation_at(year, place);
+    lunisolar::dates::day_for(Xinghe::constants(), month, day)
 }
 
 pub fn date_of_day(number: u64) -> DateAnswer

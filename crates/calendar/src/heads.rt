@@ -13,14 +13,13 @@ fn head_of(y: u64) -> YearHead
 {
     let before = units::chapter::months_before(y);
     let remainder = Xinghe::leap_remainder(y);
-    let months = lunisolar::rule::month_count(Xinghe::constants(), y, before);
-    let leap = units::chapter::leap_place(y, before);
+    let months = lunisolar::rule::year_months(Xinghe::constants(), y, before);
     let solstice = sun::winter_solstice(y);
     YearHead {
         before,
         remainder,
-        months,
-        leap,
+        months: months.count,
+        leap: months.leap,
         solstice,
     }
 }

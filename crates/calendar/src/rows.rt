@@ -6,7 +6,10 @@ use crate::elements::Elements;
 use crate::elements::elements_of;
 use lunisolar::LunationAnswer;
 use lunisolar::naming::MonthName;
+use mean_calendar::parts::DayParts;
+use mean_calendar::parts::DayShare;
 use units::Xinghe;
+use walking::fields::bit;
 ghost use mathlib.Core.Path.{_≡_};
 ghost use Prim.Native.Nat.{_+_, _<_};
 ghost use Rattle.reckoning.specs.Rule.{yearOf};
@@ -14,7 +17,7 @@ ghost use Rattle.lunisolar.specs.Names.{nameOf};
 ghost use Rattle.units.specs.Xinghe.{xinghe, rule, roundMonths};
 ghost use Rattle.calendar.specs.Heads.{yearHead};
 ghost use Rattle.calendar.specs.Elements.{elementsOf};
-ghost use Rattle.calendar.specs.Rows.{bitOf, rowFields, rowOf, monthRow};
+ghost use Rattle.calendar.specs.Rows.{rowFields, rowOf, monthRow};
 ghost use Rattle.calendar.specs.declared.HeadAnswer.{HeadAnswer};
 ghost use Rattle.calendar.specs.declared.RowAnswer.{RowAnswer};
 
@@ -22,13 +25,6 @@ ghost use Rattle.calendar.specs.declared.RowAnswer.{RowAnswer};
 pub const FIELDS: usize = 13;
 
 pub type RowFields = [u64; FIELDS];
-
-// Yes is 1 and no is 0.
-pub fn bit(yes: bool) -> u64
-    ensures { λ r. ⌜ r ≡ bitOf yes ⌝ }
-{
-    yes as u64
-}
 
 impl MonthRow {
     // The fields as numbers, in their order.
@@ -66,7 +62,13 @@ fn row_named(name: MonthName, lunation: u64, elements: Elements) -> MonthRow
 {
     let moon = elements.moon;
     let remainder = moon.remainder;
-    let length = moon::length_of(remainder);
+    let share = DayShare {
+        whole: moon.day,
+        rest: DayParts {
+            parts: remainder.parts,
+        },
+    };
+    let month = mean_calendar::months::month_by(Xinghe::constants(), name, lunation, share);
     let distance = elements.passage.distance();
     let residue = distance.remainder;
     let side = elements.passage.side(lunation);
@@ -74,13 +76,13 @@ fn row_named(name: MonthName, lunation: u64, elements: Elements) -> MonthRow
     let rest = anomaly.rest;
     MonthRow {
         lunation,
-        year: name.year,
-        place: name.place,
-        number: name.number,
-        leap: name.leap,
-        day: moon.day,
+        year: month.year,
+        place: month.place,
+        number: month.number,
+        leap: month.leap,
+        day: month.day,
         remainder,
-        length,
+        length: month.length,
         degrees: distance.degrees,
         residue,
         side,

@@ -3,7 +3,6 @@ use anomaly::Anomaly;
 use anomaly::Corrected;
 use calendar::MonthRow;
 use calendar::YearHead;
-use calendar::rows::FIELDS;
 use lines::Line;
 use lunisolar::dates::Day;
 use moon::phases::Phase;
@@ -25,16 +24,21 @@ pub fn with_head(line: Line, head: YearHead) -> Line {
         .number(remainder.parts)
 }
 
-// A row is handed to others as the numbers of its fields.
-pub fn with_row(line: Line, row: MonthRow) -> Line {
-    let numbers = row.fields();
+// Numbers in their order, each after a space.
+pub fn with_numbers(line: Line, numbers: &[u64]) -> Line {
     let mut text = line;
     let mut i = 0;
-    while i < FIELDS {
+    while i < numbers.len() {
         text = text.number(numbers[i]);
         i += 1;
     }
     text
+}
+
+// A row is handed to others as the numbers of its fields.
+pub fn with_row(line: Line, row: MonthRow) -> Line {
+    let numbers = row.fields();
+    with_numbers(line, &numbers)
 }
 
 fn with_phase(line: Line, phase: Phase) -> Line {

@@ -92,15 +92,20 @@ pub fn ask_day(year: u64, place: u64, day: u64) {
     }
 }
 
-pub fn ask_date(number: u64) {
-    let line = Line::new().text(b"date").number(number);
-    match calendar::dates::date_of_day(number) {
+// Every calendar answers a date alike.
+pub fn write_date(line: Line, answer: DateAnswer) {
+    match answer {
         DateAnswer::Answered(date) => line.number(date.year)
             .number(date.place)
             .number(date.day)
             .write(),
         DateAnswer::Refused(refusal) => line.refuse(refusal),
     }
+}
+
+pub fn ask_date(number: u64) {
+    let line = Line::new().text(b"date").number(number);
+    write_date(line, calendar::dates::date_of_day(number));
 }
 
 fn write_carried(line: Line, answer: RowAnswer) {

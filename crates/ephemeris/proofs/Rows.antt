@@ -2,6 +2,7 @@
 -- Assumes nothing.
 use mathlib.Core.Path.{_≡_, sym, ap}
 use Prim.Native.Nat.{ℕ}
+use Rattle.mean_calendar.specs.Months.{monthOf}
 use Rattle.node.specs.Eclipses.{nodeAt}
 use Rattle.node.specs.Nodes.{nodesOf}
 use Rattle.node.specs.declared.Nodes.{Nodes}
@@ -28,7 +29,7 @@ pub record Pages (n p : ℕ) (row : MonthRow) : Type 0 where
   pub rest : row .rest ≡ corrections .new .anomaly .rest
 
 pub row-pages : (n p : ℕ) (row : MonthRow) → RowAnswer.Answered row ≡ monthRow n p → Pages n p row
-unfolding rowOf nodesOf nodeAt correctionsOf correctedAt nodesFor correctionsFor
+unfolding rowOf nodesOf nodeAt correctionsOf correctedAt nodesFor correctionsFor monthOf
 row-pages n p row e =
     let f = row-found n p row e in
     let m : ℕ = f .month in

@@ -5,7 +5,7 @@ use mathlib.Core.List.{List, [], _∷_, map}
 use Prim.Native.Nat.{ℕ}
 use Rattle.names.specs.Names.{whoseNumber}
 use Rattle.names.specs.declared.LocationAnswer.{LocationAnswer}
-use Rattle.calendar.specs.Rows.{bitOf}
+use Rattle.walking.specs.Fields.{bitOf}
 use Rattle.calendar.specs.declared.YearHead.{YearHead}
 use Rattle.lunisolar.specs.declared.dates.Day.{Day}
 use Rattle.lunisolar.specs.declared.dates.Date.{Date}

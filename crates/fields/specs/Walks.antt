@@ -2,10 +2,10 @@
 -- Assumes nothing.
 use mathlib.Core.List.{List, [], _∷_}
 use Prim.Native.Nat.{ℕ}
+use lib.IntN.{ℤ}
 use Rattle.anomaly.specs.Amounts.{sizedOf}
-use Rattle.calendar.specs.Rows.{bitOf}
-use Rattle.walk.specs.declared.Walked.{Walked}
+use Rattle.walking.specs.Fields.{bitOf}
 
 -- the sum of the answered counts by its sign and size, and how many were answered
-abbrev pub totalsFields : Walked → List ℕ
-totalsFields w = bitOf (sizedOf (w .sum) .minus) ∷ sizedOf (w .sum) .size ∷ w .answered ∷ []
+abbrev pub totalsFields : ℤ → ℕ → List ℕ
+totalsFields sum answered = bitOf (sizedOf sum .minus) ∷ sizedOf sum .size ∷ answered ∷ []

@@ -1,7 +1,6 @@
 // The values of each answer as the numbers that are written to the lent array, in the order of include/xinghe.h.
 use anomaly::Corrections;
 use calendar::YearHead;
-use calendar::rows::bit;
 use lunisolar::dates::Date;
 use lunisolar::dates::Day;
 use moon::phases::Phases;
@@ -9,9 +8,11 @@ use names::LocationAnswer;
 use node::Nodes;
 use planets::TwoConjunctions;
 use sun::Point;
+use walking::fields::bit;
 ghost use mathlib.Core.Path.{_≡_};
 ghost use Rattle.fields.specs.Fields.{headFields, dayFields, dateFields, phasesFields, nodesFields, correctionsFields, pointFields, conjunctionsFields, locationFields};
 
+pub mod calendars;
 pub mod walks;
 
 pub fn head_fields(head: YearHead) -> [u64; 6]

@@ -1,13 +1,13 @@
-// What a walk comes to.
-use calendar::rows::bit;
-use walk::Walked;
+// What a walk comes to, in any calendar.
+use walking::fields::bit;
 ghost use mathlib.Core.Path.{_≡_};
 ghost use Rattle.fields.specs.Walks.{totalsFields};
 
-pub fn totals_fields(end: Walked) -> [u64; 3]
-    ensures { λ r. ⌜ r ≡ totalsFields end ⌝ }
+// The sum of the answered counts, and how many were answered.
+pub fn totals_fields(sum: i64, answered: usize) -> [u64; 3]
+    ensures { λ r. ⌜ r ≡ totalsFields sum answered ⌝ }
 {
-    let sum = anomaly::amounts::sized_of(end.sum);
-    let minus = bit(sum.minus);
-    [minus, sum.size, end.answered as u64]
+    let sized = anomaly::amounts::sized_of(sum);
+    let minus = bit(sized.minus);
+    [minus, sized.size, answered as u64]
 }

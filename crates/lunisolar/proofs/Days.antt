@@ -5,14 +5,15 @@ use Prim.Native.Nat.{ℕ, suc, _+_, _-_, _<_, _≤_}
 use native.Mathlib.Omega.{arith}
 use borrow.Author.Tests.{lt-ltb}
 use Rattle.reckoning.specs.Search.{between}
-use Rattle.reckoning.specs.Means.{newMoon}
+use Rattle.reckoning.specs.Means.{newMoon, newMoonRest}
 use Rattle.reckoning.specs.Dates.{monthOf}
 use Rattle.reckoning.proofs.Searches.{chosen, inside, between-low, between-high}
 use Rattle.reckoning.proofs.Climbs.{climb-le}
+use Rattle.reckoning.proofs.Moons.{length-by}
 use Rattle.reckoning.proofs.Dates.{month-is, month-from, month-to}
 use Rattle.refusal.specs.declared.Refusal.{Refusal}
 use Rattle.lunisolar.specs.Calendars.{meansOf, Sound, lunationAt}
-use Rattle.lunisolar.specs.Dates.{dayOf, monthDays, dayIn, dayFor, dayOfDate, dateIn, dateOfDay}
+use Rattle.lunisolar.specs.Dates.{dayOf, monthDays, lengthBy, dayIn, dayFor, dayOfDate, dateIn, dateOfDay}
 use Rattle.lunisolar.specs.Answers.{dayValues}
 use Rattle.lunisolar.specs.declared.Constants.{Constants}
 use Rattle.lunisolar.specs.declared.LunationAnswer.{LunationAnswer}
@@ -33,6 +34,10 @@ module _ (k : Constants) (s : Sound k) where
   pub next-day : (m : ℕ) → newMoon (meansOf k) m + monthDays k m ≡ newMoon (meansOf k) (suc m)
   unfolding monthDays
   next-day m = omega (arith, days-climb k s .step m)
+
+  -- its length by the small remainder
+  pub length-is : (m : ℕ) → lengthBy k (newMoonRest (meansOf k) m) ≡ monthDays k m
+  length-is m = omega (arith, length-by (meansOf k) (s .moon) m, next-day m)
 
   -- EACH DAY OF THE CALENDAR LIES IN A MONTH OF IT, AND IN NO OTHER
   pub in-a-month : (d : ℕ) → d < k .days → Within k d (monthOf (newMoon (meansOf k)) d)

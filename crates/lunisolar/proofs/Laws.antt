@@ -1,10 +1,10 @@
 -- Of any calendar with sound constants: the laws of its leap rule, the bounds of its figures, and what its answers say.
 -- Assumes nothing.
-use mathlib.Core.Path.{_≡_, refl}
+use mathlib.Core.Path.{_≡_, refl, sym}
 use mathlib.Core.Logic.{⊎-elim}
-use Prim.Native.Nat.{ℕ, zero, suc, _+_, _-_, _*_, _≤_, _<_}
+use Prim.Native.Nat.{ℕ, zero, suc, _+_, _-_, _*_, _/_, _≤_, _<_}
 use native.Mathlib.Omega.{arith}
-use native.Mathlib.Nat.{mul-le-mul}
+use native.Mathlib.Nat.{mul-le-mul, div-add-mod', mod-lt, div-lt-iff-lt-mul}
 use lib.Dec.{leb, ltb, ltb→lt}
 use borrow.Author.Tests.{lt-ltb, le-leb}
 use mir.Val.{boolByte}
@@ -13,6 +13,7 @@ use Rattle.reckoning.specs.Rule.{monthCount, leapPlace}
 use Rattle.reckoning.specs.Figures.{leapCome}
 use Rattle.reckoning.specs.Means.{newMoon, termDay}
 use Rattle.reckoning.proofs.Searches.{chosen, inside, between-low, between-high}
+use Rattle.reckoning.proofs.Rates.{rate, rate-is}
 use Rattle.reckoning.proofs.Climbs.{Climbs}
 use Rattle.reckoning.proofs.Laws.{Laws}
 use Rattle.reckoning.proofs.Days.{day-laws, leap-come}
@@ -35,6 +36,20 @@ module _ (k : Constants) (s : Sound k) where
   -- the new moons climb, so each day lies in one month
   pub days-climb : Climbs (newMoon (meansOf k))
   days-climb = moons-climb (meansOf k) (s .moon)
+
+  -- the solstice's day is that of the year's first middle term
+  pub solstice-day : (y : ℕ) → y * k .year / k .degree ≡ termDay (meansOf k) (12 * y)
+  unfolding termDay rate
+  solstice-day y =
+      sym
+      (rate-is (k .year) (12 * k .degree) (omega (arith, s .sun .den)) (12 * y) (y * k .year / k .degree)
+      (omega (arith, div-add-mod' (y * k .year) (k .degree)))
+      (omega (arith, div-add-mod' (y * k .year) (k .degree), mod-lt (y * k .year) (s .sun .den))))
+
+  pub solstice-high : (y : ℕ) → y ≤ 1048576 → y * k .year / k .degree ≤ 1073741824
+  solstice-high y h =
+      let room : y * k .year < 1073741824 * k .degree = omega (arith, product y (k .year) 1048576 (372 * k .degree) h (s .sun .long), s .sun .den) in
+      omega (arith, div-lt-iff-lt-mul {y = 1073741824} (s .sun .den) .1 room)
 
   -- 12 to 13 months a year
   pub before-bound : (y : ℕ) → ruleOf k .before y ≤ 13 * y

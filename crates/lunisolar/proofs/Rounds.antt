@@ -11,7 +11,7 @@ use Rattle.reckoning.proofs.Climbs.{climb-le}
 use Rattle.reckoning.proofs.Leaps.{years-climb, year-ends}
 use Rattle.reckoning.proofs.Rows.{year-under, month-back, place-in, year-of, place-of, leap-at, number-at}
 use Rattle.reckoning.proofs.Dates.{month-under}
-use Rattle.lunisolar.specs.Calendars.{meansOf, ruleOf, Sound, Stands, lunationAt}
+use Rattle.lunisolar.specs.Calendars.{meansOf, ruleOf, Sound, InCalendar, Stands, lunationAt}
 use Rattle.lunisolar.specs.Names.{nameOf}
 use Rattle.lunisolar.specs.declared.Constants.{Constants}
 use Rattle.lunisolar.specs.declared.LunationAnswer.{LunationAnswer}
@@ -69,6 +69,14 @@ module _ (k : Constants) (s : Sound k) where
 
   pub lunation-in-round : (n p m : ℕ) → LunationAnswer.Lunation m ≡ lunationAt k n p → m < k .lunations
   lunation-in-round n p m e = in-round (n - k .first) p m (found n p m e .1)
+
+  -- so what is answered for a year and a place is in the calendar
+  pub in-calendar : (n p : ℕ) → InCalendar k (lunationAt k n p)
+  in-calendar n p = go (lunationAt k n p) refl
+    where
+      go : (a : LunationAnswer) → a ≡ lunationAt k n p → InCalendar k a
+      go (LunationAnswer.Lunation m) e = lunation-in-round n p m e
+      go (LunationAnswer.Refused x) e = tt
 
   -- YEAR AND PLACE TO MONTH AND BACK
   pub place-to-month : (n p m : ℕ) → LunationAnswer.Lunation m ≡ lunationAt k n p → (nameOf k m .year ≡ n) × (nameOf k m .place ≡ p)

@@ -5,7 +5,7 @@ use Prim.Native.Nat.{ℕ, _+_, _-_, _≤_, _<_}
 use lib.Dec.{ltb}
 use Rattle.reckoning.specs.Search.{pick, between}
 use Rattle.reckoning.specs.Rule.{Rule, monthCount}
-use Rattle.reckoning.specs.Means.{Means, newMoon, MonthBound, YearBound}
+use Rattle.reckoning.specs.Means.{Means, newMoon, MonthBound, YearBound, GainBound}
 use Rattle.reckoning.specs.Days.{byDays}
 use Rattle.refusal.specs.declared.Refusal.{Refusal}
 use Rattle.lunisolar.specs.declared.Constants.{Constants}
@@ -24,8 +24,11 @@ ruleOf k = byDays (meansOf k)
 pub record Sound (k : Constants) : Type 0 where
   pub moon : MonthBound (meansOf k)
   pub sun : YearBound (meansOf k)
+  pub gain : GainBound (meansOf k)
   pub month : k .month < 16777216
   pub year : k .year < 16777216
+  pub degree : k .degree < 32768
+  pub divisor : k .day < 262144
   pub first : k .first ≤ 1
   pub years : k .years < 1048576
   pub lunations : ruleOf k .before (k .years) ≡ k .lunations
@@ -43,6 +46,11 @@ lunationFor k (YearAnswer.Refused e) p = LunationAnswer.Refused e
 
 abbrev pub lunationAt : Constants → ℕ → ℕ → LunationAnswer
 lunationAt k n p = lunationFor k (yearAt k n) p
+
+-- a month that is answered is one of the calendar's
+abbrev pub InCalendar : Constants → LunationAnswer → Type 0
+InCalendar k (LunationAnswer.Lunation m) = m < k .lunations
+InCalendar k (LunationAnswer.Refused e) = Unit {0}
 
 -- month m stands at place p of the year with y years past
 pub record Stands (k : Constants) (y p m : ℕ) : Type 0 where

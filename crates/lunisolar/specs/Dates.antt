@@ -1,7 +1,7 @@
 -- Dates and day numbers (01, "Years and months" and "Numbers returned").
 -- Assumes nothing.
-use Prim.Native.Nat.{ℕ, suc, _+_, _-_}
-use lib.Dec.{ltb}
+use Prim.Native.Nat.{ℕ, suc, _+_, _-_, _*_}
+use lib.Dec.{leb, ltb}
 use Rattle.reckoning.specs.Search.{pick, between}
 use Rattle.reckoning.specs.Means.{newMoon}
 use Rattle.reckoning.specs.Dates.{monthOf}
@@ -20,9 +20,13 @@ use Rattle.lunisolar.specs.declared.dates.DateAnswer.{DateAnswer}
 abbrev pub dayOf : ℕ → Day
 dayOf d = record { number = d; sexagenary = sexagenaryOf d }
 
--- the length of month m: the days until the next begins. Of the Xinghe it is 01's, by the small remainder (`row-length`)
+-- the length of month m: the days until the next begins
 unfoldable pub monthDays : Constants → ℕ → ℕ
 monthDays k m = newMoon (meansOf k) (suc m) - newMoon (meansOf k) m
+
+-- the same by the small remainder: 30 days from 30 day divisors less a month on, otherwise 29 (`length-is`)
+abbrev pub lengthBy : Constants → ℕ → ℕ
+lengthBy k rest = pick (leb (30 * k .day - k .month) rest) 30 29
 
 -- day i of month m, counted from 1: refused under 3 where i is 0 or past the month's length
 unfoldable pub dayIn : Constants → ℕ → ℕ → DayAnswer

@@ -1,15 +1,19 @@
 // Dates and day numbers.
 use crate::Constants;
+use crate::LunationAnswer;
 use crate::means::month_length;
+use crate::means::month_of_day;
 use crate::means::new_moon_day;
+use crate::rule::months_before;
+use crate::rule::year_of;
 use refusal::Refusal;
 ghost use mathlib.Core.Path.{_≡_};
 ghost use Prim.Native.Nat.{_<_};
 ghost use Rattle.reckoning.specs.Rule.{yearOf};
 ghost use Rattle.reckoning.specs.Means.{newMoon};
 ghost use Rattle.reckoning.specs.Dates.{monthOf};
-ghost use Rattle.lunisolar.specs.Calendars.{Sound, meansOf, ruleOf};
-ghost use Rattle.lunisolar.specs.Dates.{dayIn, dateIn};
+ghost use Rattle.lunisolar.specs.Calendars.{Sound, InCalendar, meansOf, ruleOf};
+ghost use Rattle.lunisolar.specs.Dates.{dayIn, dayFor, dayOfDate, dateIn, dateOfDay};
 ghost use Rattle.lunisolar.specs.Answers.{dayNumber, dayValues, zeroDay, dateNumber, dateValues, zeroDate};
 
 // A day: its number, and its day of the sixty, from 1.
@@ -51,6 +55,37 @@ pub fn day_in(k: Constants, m: u64, day: u64) -> DayAnswer
         number,
         sexagenary: crate::sixty::sexagenary(number),
     })
+}
+
+// A day of a month that was sought, from 1: refused as the month is, then as the day is.
+pub fn day_for(k: Constants, month: LunationAnswer, day: u64) -> DayAnswer
+    requires { ⌜ Sound k × InCalendar k month ⌝ }
+    ensures { λ r. ⌜ r ≡ dayFor k month day ⌝ }
+{
+    match month {
+        LunationAnswer::Lunation(m) => day_in(k, m, day),
+        LunationAnswer::Refused(e) => DayAnswer::Refused(e),
+    }
+}
+
+pub fn day_of_date(k: Constants, year: u64, place: u64, day: u64) -> DayAnswer
+    requires { ⌜ Sound k ⌝ }
+    ensures { λ r. ⌜ r ≡ dayOfDate k year place day ⌝ }
+{
+    day_for(k, crate::lunation_at(k, year, place), day)
+}
+
+pub fn date_of_day(k: Constants, number: u64) -> DateAnswer
+    requires { ⌜ Sound k ⌝ }
+    ensures { λ r. ⌜ r ≡ dateOfDay k number ⌝ }
+{
+    if k.days <= number {
+        return DateAnswer::Refused(Refusal::Day);
+    }
+    let m = month_of_day(k, number);
+    let y = year_of(k, m);
+    let before = months_before(k, y);
+    DateAnswer::Answered(date_in(k, y, before, m, number))
 }
 
 // The date of a day, with the month that it lies in, the year of that, counted from 0, and the months before the year.

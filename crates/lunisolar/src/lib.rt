@@ -1,11 +1,11 @@
 // Any calendar of mean months and middle terms: the arithmetic, once, over the calendar's constants.
-// Years are counted from 0 here, and months from 0 over the whole calendar.
+// Years are counted from 0, but where they are taken or given as the calendar writes them; months from 0 over the whole calendar.
 use refusal::Refusal;
 ghost use mathlib.Core.Path.{_≡_};
 ghost use Prim.Native.Nat.{_<_};
 ghost use lib.Dec.{ltb};
 ghost use Rattle.reckoning.specs.Rule.{monthCount};
-ghost use Rattle.lunisolar.specs.Calendars.{Sound, ruleOf, yearAt, lunationFor};
+ghost use Rattle.lunisolar.specs.Calendars.{Sound, ruleOf, yearAt, lunationFor, lunationAt};
 ghost use Rattle.lunisolar.specs.declared.YearAnswer.{YearAnswer};
 
 pub mod dates;
@@ -77,5 +77,19 @@ pub fn lunation_in(k: Constants, y: u64, before: u64, place: u64) -> LunationAns
         LunationAnswer::Lunation(before + place)
     } else {
         LunationAnswer::Refused(Refusal::Place)
+    }
+}
+
+// The month at a place of a year as it is written.
+pub fn lunation_at(k: Constants, year: u64, place: u64) -> LunationAnswer
+    requires { ⌜ Sound k ⌝ }
+    ensures { λ r. ⌜ r ≡ lunationAt k year place ⌝ }
+{
+    match year_at(k, year) {
+        YearAnswer::Past(y) => {
+            let before = rule::months_before(k, y);
+            lunation_in(k, y, before, place)
+        }
+        YearAnswer::Refused(e) => LunationAnswer::Refused(e),
     }
 }

@@ -6,7 +6,7 @@ ghost use lib.Dec.{leb};
 ghost use Rattle.reckoning.specs.Dates.{monthOf};
 ghost use Rattle.reckoning.specs.Means.{newMoon, termDay};
 ghost use Rattle.lunisolar.specs.Calendars.{Sound, meansOf};
-ghost use Rattle.lunisolar.specs.Dates.{monthDays};
+ghost use Rattle.lunisolar.specs.Dates.{monthDays, lengthBy};
 
 // The day on which month m begins.
 pub fn new_moon_day(k: Constants, m: u64) -> u64
@@ -16,16 +16,20 @@ pub fn new_moon_day(k: Constants, m: u64) -> u64
     m * k.month / k.day
 }
 
-// The days of month m, by its small remainder: the next new moon need not be worked out.
+// The days of a month by its small remainder: the next new moon need not be worked out.
+pub fn length_by(k: Constants, rest: u64) -> u64
+    requires { ⌜ Sound k ⌝ }
+    ensures { λ r. ⌜ r ≡ lengthBy k rest ⌝ }
+{
+    if 30 * k.day - k.month <= rest { 30 } else { 29 }
+}
+
+// The days of month m.
 pub fn month_length(k: Constants, m: u64) -> u64
     requires { ⌜ Sound k × (m ≤ 16777216) ⌝ }
     ensures { λ r. ⌜ r ≡ monthDays k m ⌝ }
 {
-    if 30 * k.day - k.month <= m * k.month % k.day {
-        30
-    } else {
-        29
-    }
+    length_by(k, m * k.month % k.day)
 }
 
 // Whether middle term j, that is term j % 12 of year j / 12, falls on a day or later: nothing is divided.

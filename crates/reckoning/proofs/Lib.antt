@@ -1,4 +1,5 @@
 pub mod Searches
+pub mod Lists
 pub mod Counts
 pub mod Climbs
 pub mod Rates
@@ -9,3 +10,4 @@ pub mod Dates
 pub mod Moons
 pub mod Days
 pub mod Chapters
+pub mod Near

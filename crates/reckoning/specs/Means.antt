@@ -1,6 +1,6 @@
 -- The mean moon and sun of a calendar: a year is yearNum/yearDen days, a month monthNum/monthDen days.
 -- Assumes nothing.
-use Prim.Native.Nat.{ℕ, _*_, _/_, _%_, _≤_, _<_}
+use Prim.Native.Nat.{ℕ, _+_, _*_, _/_, _%_, _≤_, _<_}
 
 pub record Means : Type 0 where
   pub yearNum : ℕ
@@ -32,3 +32,7 @@ pub record YearBound (M : Means) : Type 0 where
   pub den : 0 < M .yearDen
   pub short : 360 * M .yearDen ≤ M .yearNum
   pub long : M .yearNum ≤ 372 * M .yearDen
+
+-- and two twelfths of a year a day longer than two months, or more
+pub record GainBound (M : Means) : Type 0 where
+  pub gain : 12 * (M .yearDen * M .monthDen) + 24 * (M .yearDen * M .monthNum) ≤ 2 * (M .yearNum * M .monthDen)

@@ -10,6 +10,8 @@ use Rattle.reckoning.specs.Chapters.{chapterRest}
 use Rattle.reckoning.proofs.Days.{figured}
 use Rattle.lunisolar.specs.Calendars.{yearAt, lunationFor}
 use Rattle.lunisolar.specs.Names.{nameOf}
+use Rattle.lunisolar.specs.Dates.{monthDays}
+use Rattle.mean_calendar.specs.Months.{monthOf}
 use Rattle.units.specs.Xinghe.{N, P, means, rule}
 use Rattle.units.proofs.Sound.{sound}
 use Rattle.sun.specs.Solstices.{solsticeOf}
@@ -34,6 +36,6 @@ is-closed : rule ≡ closed
 is-closed = figured means (sound .moon) (sound .sun)
 
 pub starred : All table
-unfolding between firstFrom any monthCount isLeap leapPlace monthNumber placeOf newMoon newMoonRest termDay termIn chapterRest yearAt lunationFor nameOf solsticeOf newMoonOf lengthOf headOf headFor rowOf rowFor distanceOf eclipseAt eclipseOf noEclipse nodeAt passed sideOf nodesOf sumOf amountOf correctionOn anomalyAt correctionAt moved correctedAt correctionsOf nodesFor correctionsFor
+unfolding between firstFrom any monthCount isLeap leapPlace monthNumber placeOf newMoon newMoonRest termDay termIn chapterRest yearAt lunationFor nameOf solsticeOf newMoonOf lengthOf headOf headFor rowOf rowFor monthDays distanceOf eclipseAt eclipseOf noEclipse nodeAt passed sideOf nodesOf sumOf amountOf correctionOn anomalyAt correctionAt moved correctedAt correctionsOf nodesFor correctionsFor monthOf
 starred =
     (rw is-closed refl, ((rw is-closed refl, rw (is-closed, year-closed 0, is-closed) refl, refl), (rw is-closed refl, (rw is-closed refl, (rw is-closed refl, (rw is-closed refl, (rw is-closed refl, (rw is-closed refl, ((rw is-closed refl, rw (is-closed, year-closed 12511799, is-closed) refl, refl), (refl, (rw is-closed (refl, refl, refl, refl, refl), ((rw is-closed refl, rw is-closed refl), (rw is-closed (refl, refl, refl, refl), ((rw is-closed refl, refl, rw is-closed refl), (rw is-closed refl, ((rw is-closed refl, rw (is-closed, year-closed 3636238, is-closed) refl, refl), ((rw is-closed refl, rw (is-closed, year-closed 3636245, is-closed) refl, refl), ((rw is-closed refl, rw (is-closed, year-closed 3636246, is-closed) refl, refl), (rw is-closed (refl, refl, refl, refl, refl), (rw is-closed (refl, refl), ((rw is-closed refl, rw is-closed refl), (rw is-closed refl, tt))))))))))))))))))))))

@@ -13,7 +13,8 @@ use Rattle.lunisolar.specs.Sixty.{sexagenaryOf}
 use Rattle.units.specs.Xinghe.{N, D, P, means}
 use Rattle.moon.specs.NewMoons.{lengthOf}
 use Rattle.calendar.specs.Heads.{yearHead}
-use Rattle.calendar.specs.Rows.{monthRow, bitOf, rowFields}
+use Rattle.walking.specs.Fields.{bitOf}
+use Rattle.calendar.specs.Rows.{monthRow, rowFields}
 use Rattle.calendar.specs.Answers.{rowNumber, rowValues}
 use Rattle.calendar.specs.declared.HeadAnswer.{HeadAnswer}
 use Rattle.node.specs.Sides.{sideNumber}

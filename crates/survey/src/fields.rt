@@ -3,7 +3,6 @@ use anomaly::Anomaly;
 use anomaly::Corrected;
 use anomaly::Corrections;
 use calendar::MonthRow;
-use calendar::rows::FIELDS;
 use lines::digest::Digest;
 use moon::phases::Phase;
 use moon::phases::Phases;
@@ -31,16 +30,20 @@ pub fn fed_point(digest: Digest, point: Point) -> Digest {
         .feed(point.rest)
 }
 
-// The numbers of a row's fields, and then the day of the sixty on which the month begins.
-pub fn fed_row(digest: Digest, row: MonthRow) -> Digest {
-    let numbers = row.fields();
+pub fn fed_numbers(digest: Digest, numbers: &[u64]) -> Digest {
     let mut fed = digest;
     let mut i = 0;
-    while i < FIELDS {
+    while i < numbers.len() {
         fed = fed.feed(numbers[i]);
         i += 1;
     }
-    fed.feed(lunisolar::sixty::sexagenary(row.day))
+    fed
+}
+
+// The numbers of a row's fields, and then the day of the sixty on which the month begins.
+pub fn fed_row(digest: Digest, row: MonthRow) -> Digest {
+    let numbers = row.fields();
+    fed_numbers(digest, &numbers).feed(lunisolar::sixty::sexagenary(row.day))
 }
 
 // The stem and branch of a day, by the lent names.

@@ -1,5 +1,7 @@
-// The survey: counts and a digest over every number that the calendar answers, for each era and for the round, in the lines that the
-// independent second program writes.
+// The survey: counts and a digest over every number that the calendar answers, for each era and for the round, and then for the Zhengguang and
+// the Linde calendar, in the lines that the independent second program writes.
+mod calendar_years;
+mod calendars;
 mod counts;
 mod fields;
 mod mended;
@@ -7,6 +9,7 @@ mod reign;
 mod volume;
 mod years;
 
+use calendars::Calendar;
 use lines::Line;
 use years::Survey;
 
@@ -28,4 +31,6 @@ fn survey_round() -> Survey {
 
 fn main() {
     survey_round().write(Line::new().text(b"round"));
+    calendar_years::survey_years(Calendar::Zhengguang).write(Line::new().text(b"zhengguang"));
+    calendar_years::survey_years(Calendar::Linde).write(Line::new().text(b"linde"));
 }

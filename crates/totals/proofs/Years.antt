@@ -14,6 +14,7 @@ use Rattle.reckoning.proofs.Leaps.{years-climb, year-ends, Common, Long, two-ki
 use Rattle.reckoning.proofs.Rows.{year-of}
 use Rattle.lunisolar.specs.Names.{nameOf}
 use Rattle.lunisolar.proofs.Laws.{year-at, lunation-at}
+use Rattle.mean_calendar.specs.Months.{monthOf}
 use Rattle.units.specs.Xinghe.{xinghe, rule, roundYears, roundMonths}
 use Rattle.units.proofs.Sound.{laws}
 use Rattle.node.specs.Nodes.{nodesOf}
@@ -40,7 +41,7 @@ module _ (y : ℕ) (in-round : y < roundYears) where
 
   -- its rows are those of its months, and so are its eclipse pages
   row-leap : (p : ℕ) → p < monthCount rule y → rowAt (1 + y) p .leap ≡ isLeap rule y (rule .before y + p)
-  unfolding rowFor rowOf nameOf
+  unfolding rowFor rowOf nameOf monthOf
   row-leap p h =
       let e : 1 + y ≡ y + 1 = omega arith in
       rw (e, lunation-at xinghe y p in-round h, year-of rule laws y p h)

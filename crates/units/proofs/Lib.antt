@@ -1,4 +1,3 @@
 pub mod Sound
 pub mod Years
 pub mod Table
-pub mod Leaps

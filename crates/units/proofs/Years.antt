@@ -3,13 +3,11 @@
 use mathlib.Core.Path.{_≡_}
 use Prim.Native.Nat.{ℕ, _-_}
 use Rattle.reckoning.specs.Search.{pick}
-use Rattle.reckoning.proofs.Searches.{through}
 use Rattle.refusal.specs.declared.Refusal.{Refusal}
 use Rattle.lunisolar.specs.Calendars.{yearAt}
 use Rattle.lunisolar.specs.declared.YearAnswer.{YearAnswer}
+use Rattle.lunisolar.proofs.Numbers as numbers
 use Rattle.units.specs.Xinghe.{xinghe, isYear}
 
-module _ {B : Type 0} (f : YearAnswer → B) where
-  pub of-year : (n : ℕ) → f (yearAt xinghe n) ≡ pick (isYear n) (f (YearAnswer.Past (n - 1))) (f (YearAnswer.Refused Refusal.Year))
-  unfolding yearAt
-  of-year n = through f (isYear n) (YearAnswer.Past (n - 1)) (YearAnswer.Refused Refusal.Year)
+pub of-year : {B : Type 0} (f : YearAnswer → B) (n : ℕ) → f (yearAt xinghe n) ≡ pick (isYear n) (f (YearAnswer.Past (n - 1))) (f (YearAnswer.Refused Refusal.Year))
+of-year f n = numbers.of-year xinghe f n

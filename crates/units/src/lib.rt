@@ -44,9 +44,6 @@ impl Xinghe {
 
     pub const LUNATIONS: u64 = 6951;
 
-    // the leap months of a chapter (章閏)
-    pub const LEAPS: u64 = 207;
-
     // the months of an era (紀)
     pub const ERA: u64 = 2085300;
 

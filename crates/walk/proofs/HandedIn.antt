@@ -10,7 +10,8 @@ use Rattle.refusal.specs.declared.Refusal.{Refusal}
 use Rattle.walking.specs.Walk.{genuine}
 use Rattle.walking.proofs.Walks.{genuine-row}
 use Rattle.calendar.specs.Rows.{rowFields, rowOf}
-use Rattle.calendar.specs.Carries.{months, namedMonth, genuineFields}
+use Rattle.walking.specs.Fields.{namedMonth}
+use Rattle.calendar.specs.Carries.{months, genuineFields}
 use Rattle.calendar.specs.declared.MonthRow.{MonthRow}
 use Rattle.calendar.proofs.Lawful.{lawful}
 use Rattle.walk.specs.Walked.{walked, walkAnswer, walkAnswerFields, walkNumber}

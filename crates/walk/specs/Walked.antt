@@ -1,17 +1,16 @@
 -- A walk over a list of signed counts (01, "Walks"): its last row, the sum of the answered counts in whole numbers, and how many were answered.
 -- Assumes nothing.
-use mathlib.Core.Path.{_≡_}
 use mathlib.Core.List.{List}
-use Prim.Native.Nat.{ℕ, _<_}
+use Prim.Native.Nat.{ℕ}
 use lib.IntN.{ℤ, pos}
 use Rattle.reckoning.specs.Search.{pick}
 use Rattle.refusal.specs.Numbers.{numberOf}
 use Rattle.refusal.specs.declared.Refusal.{Refusal}
 use Rattle.walking.specs.Walk.{genuine, walk, total, number}
-use Rattle.units.specs.Xinghe.{roundMonths}
+use Rattle.walking.specs.Fields.{namedMonth}
 use Rattle.calendar.specs.Rows.{rowOf}
 use Rattle.calendar.specs.Answers.{zeroRow}
-use Rattle.calendar.specs.Carries.{months, namedMonth, genuineFields}
+use Rattle.calendar.specs.Carries.{months, genuineFields}
 use Rattle.calendar.specs.declared.MonthRow.{MonthRow}
 use Rattle.walk.specs.declared.Walked.{Walked}
 use Rattle.walk.specs.declared.WalkAnswer.{WalkAnswer}
@@ -39,8 +38,3 @@ zeroWalk = record { row = zeroRow; sum = pos 0; answered = 0 }
 abbrev pub walkValues : WalkAnswer → Walked
 walkValues (WalkAnswer.Answered w) = w
 walkValues (WalkAnswer.Refused e) = zeroWalk
-
--- a row is genuine when it equals, in every field, the row of the month of the round that it names
-pub record Genuine (r : MonthRow) : Type 0 where
-  pub in-round : r .lunation < roundMonths
-  pub is-row : r ≡ rowOf (r .lunation)

@@ -58,14 +58,11 @@ pub fn walk_fields(start: &RowFields, counts: &[i64]) -> WalkAnswer
     ensures { λ r. ⌜ r ≡ walkAnswerFields (now (start .entry)) (now (counts .entry)) ⌝ }
 {
     if calendar::carries::is_genuine(start) {
-        let from = start[0];
-        let end = walking::walk_months(Xinghe::MONTHS, from, counts);
+        let end = walking::arrive(Xinghe::MONTHS, start[0], counts);
         let row = calendar::rows::row_of(end.month);
-        // refused carries move nothing, so the sum is how far the walk has come
-        let sum = walking::difference(end.month, from);
         WalkAnswer::Answered(Walked {
             row,
-            sum,
+            sum: end.sum,
             answered: end.answered,
         })
     } else {

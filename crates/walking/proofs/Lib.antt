@@ -3,3 +3,7 @@ pub mod Walks
 pub mod Theorem
 pub mod Program
 pub mod Sums
+pub mod Bits
+pub mod HandedIn
+pub mod Arrivals
+pub mod Demand

@@ -15,9 +15,11 @@ use lib.IntN.{ℤ, pos, negsuc, natAbs, _+ℤ_}
 use Rattle.reckoning.specs.Search.{pick}
 use Rattle.refusal.specs.declared.Refusal.{Refusal}
 use Rattle.walking.specs.Walk.{Calendar, answered, refused, inRound, carryFrom}
-use Rattle.walking.specs.Paper.{finalMonth, answeredSteps}
-use Rattle.walking.specs.Signed.{targetOf}
+use Rattle.walking.specs.Fields.{rowOn}
+use Rattle.walking.specs.Paper.{next, finalMonth, answeredSteps}
+use Rattle.walking.specs.Signed.{targetOf, landingOf}
 use Rattle.walking.specs.declared.Target.{Target}
+use Rattle.walking.specs.declared.Landing.{Landing}
 use Rattle.walking.proofs.Walks.{and-both}
 
 -- a month is reached only inside the round
@@ -29,18 +31,13 @@ passed : (b : Bool) (n : ℕ) → Target.Outside ≡ pick b (Target.Month n) Tar
 passed true n e = cc
 passed false n e = refl
 
-inside : (size : ℕ) (z : ℤ) → inRound size z ≡ true → natAbs z < size
+pub inside : (size : ℕ) (z : ℤ) → inRound size z ≡ true → natAbs z < size
 inside size (pos n) e = ltb-true n size e
 inside size (negsuc n) e = let bad : _≡_ {A = ℕ} 0 1 = cc in absurd (omega arith)
 
 one-at-most : (b : Bool) → pick b 1 0 ≤ 1
 one-at-most true = omega arith
 one-at-most false = omega arith
-
-pub reached-below : (size : ℕ) (z : ℤ) (k : ℕ) → Target.Month k ≡ targetOf size z → k < size
-reached-below size z k e =
-    let p = reached (inRound size z) (natAbs z) k e in
-    omega (arith, inside size z (p .0), p .1)
 
 -- where the code's two tests end: whether month m is one of the round, and whether what is handed in for its row is the same as the row
 module _ (size m : ℕ) (same : Bool) where
@@ -53,15 +50,43 @@ module _ (size m : ℕ) (same : Bool) where
   pub in-round : (ltb m size && same) ≡ true → m < size
   in-round e = ltb-true m size (and-both (ltb m size) same e .0)
 
--- where the count leads, once what is handed in has passed
-module _ {R : Type 0} (C : Calendar R) (ok : Bool) (m : ℕ) (c : ℤ) (g : ok ≡ true) where
-  pub carry-month : (k : ℕ) → Target.Month k ≡ targetOf (C .size) (pos m +ℤ c) → carryFrom C ok m c ≡ answered (C .row k)
-  carry-month k e =
-      let p = reached (inRound (C .size) (pos m +ℤ c)) (natAbs (pos m +ℤ c)) k e in
-      rw (g, p .0, p .1)
+-- where a count leads is where its carry lands, once what is handed in has passed
+module _ (size m : ℕ) (c : ℤ) where
+  pub landing-month : (k : ℕ) → Target.Month k ≡ targetOf size (pos m +ℤ c) → Landing.Month k ≡ landingOf size true m c
+  landing-month k e =
+      let p = reached (inRound size (pos m +ℤ c)) (natAbs (pos m +ℤ c)) k e in
+      rw (p .0, p .1) refl
 
-  pub carry-outside : Target.Outside ≡ targetOf (C .size) (pos m +ℤ c) → carryFrom C ok m c ≡ refused Refusal.Carry
-  carry-outside e = rw (g, passed (inRound (C .size) (pos m +ℤ c)) (natAbs (pos m +ℤ c)) e)
+  pub landing-outside : Target.Outside ≡ targetOf size (pos m +ℤ c) → Landing.Refused Refusal.Carry ≡ landingOf size true m c
+  landing-outside e = rw (passed (inRound size (pos m +ℤ c)) (natAbs (pos m +ℤ c)) e) refl
+
+  -- a month that it lands on is one of the round
+  pub landed-below : (ok : Bool) (k : ℕ) → Landing.Month k ≡ landingOf size ok m c → k < size
+  landed-below true k e = go (inRound size (pos m +ℤ c)) refl e
+    where
+      go : (b : Bool) → inRound size (pos m +ℤ c) ≡ b → Landing.Month k ≡ pick b (Landing.Month (natAbs (pos m +ℤ c))) (Landing.Refused Refusal.Carry) → k < size
+      go true t e = let q : k ≡ natAbs (pos m +ℤ c) = cc in omega (arith, q, inside size (pos m +ℤ c) t)
+      go false t e = let bad : _≡_ {A = ℕ} 0 1 = cc in absurd (omega arith)
+  landed-below false k e = let bad : _≡_ {A = ℕ} 0 1 = cc in absurd (omega arith)
+
+-- THE ROW OF WHERE IT LANDS IS WHAT THE CARRY ANSWERS
+pub landed : {R : Type 0} (C : Calendar R) (ok : Bool) (m : ℕ) (c : ℤ) → rowOn C (landingOf (C .size) ok m c) ≡ carryFrom C ok m c
+landed C true m c = go (inRound (C .size) (pos m +ℤ c))
+  where
+    go : (b : Bool) → rowOn C (pick b (Landing.Month (natAbs (pos m +ℤ c))) (Landing.Refused Refusal.Carry)) ≡ pick b (answered (C .row (natAbs (pos m +ℤ c)))) (refused Refusal.Carry)
+    go true = refl
+    go false = refl
+landed C false m c = refl
+
+-- a walk by months ends in the round
+pub final-below : (size : ℕ) (cs : List ℤ) (k : ℕ) → k < size → finalMonth size k cs < size
+unfolding finalMonth
+final-below size [] k h = h
+final-below size (c ∷ cs) k h = final-below size cs (next size k c) (go (inRound size (pos k +ℤ c)) refl)
+  where
+    go : (b : Bool) → inRound size (pos k +ℤ c) ≡ b → pick b (natAbs (pos k +ℤ c)) k < size
+    go true t = inside size (pos k +ℤ c) t
+    go false t = h
 
 -- a walk by months so far: it stands at month k, after i counts of cs of which n were answered, and the rest of the walk from there is the
 -- whole walk from the month m

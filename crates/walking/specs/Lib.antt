@@ -1,3 +1,4 @@
 pub mod Walk
 pub mod Paper
 pub mod Signed
+pub mod Fields

@@ -3,10 +3,11 @@
 -- Assumes nothing.
 use Prim.Native.Nat.{ℕ, _+_}
 use mathlib.Core.List.{List, [], _∷_}
-use lib.IntN.{ℤ, pos, natAbs, _+ℤ_}
+use lib.IntN.{ℤ, pos, natAbs, _+ℤ_, _-ℤ_}
 use Rattle.reckoning.specs.Search.{pick}
 use Rattle.walking.specs.Walk.{Calendar, Answer, inRound, landing}
 use Rattle.walking.specs.declared.Steps.{Steps}
+use Rattle.walking.specs.declared.Arrival.{Arrival}
 
 module _ (size : ℕ) where
   abbrev pub next : ℕ → ℤ → ℕ
@@ -23,6 +24,10 @@ module _ (size : ℕ) where
 
   abbrev pub stepsOf : ℕ → List ℤ → Steps
   stepsOf k cs = record { month = finalMonth k cs; answered = answeredSteps k cs }
+
+  -- with how far it comes: refused counts move nothing, so that is the sum of the answered ones (`sum-is`)
+  abbrev pub arrivalOf : ℕ → List ℤ → Arrival
+  arrivalOf k cs = record { month = finalMonth k cs; sum = pos (finalMonth k cs) -ℤ pos k; answered = answeredSteps k cs }
 
 -- its answers in order
 unfoldable pub paper : {R : Type 0} → Calendar R → ℕ → List ℤ → List (Answer R)

@@ -1,6 +1,7 @@
 -- Rows carried by signed counts, and walks (01, "Walks"), over any calendar of a round: a row for each month below the round's size.
 -- Assumes nothing.
-use Prim.Native.Nat.{ℕ, _+_}
+use mathlib.Core.Path.{_≡_}
+use Prim.Native.Nat.{ℕ, _+_, _<_}
 use mathlib.Core.Bool.{Bool, false, _&&_}
 use mathlib.Core.List.{List, [], _∷_}
 use lib.Dec.{ltb}
@@ -29,6 +30,11 @@ module _ {R : Type 0} where
   -- a row is genuine when it names a month of the round and is the same, in every field, as that month's row
   abbrev pub genuine : Calendar R → R → Bool
   genuine C r = ltb (C .month r) (C .size) && C .same r (C .row (C .month r))
+
+  -- the same as a statement: it equals, in every field, the row of the month of the round that it names
+  pub record Genuine (C : Calendar R) (r : R) : Type 0 where
+    pub in-round : C .month r < C .size
+    pub is-row : r ≡ C .row (C .month r)
 
   -- the row worked out from the origin for month z, or refusal 5 where z is no month of the round
   abbrev pub landing : Calendar R → ℤ → Answer R

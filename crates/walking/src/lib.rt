@@ -1,9 +1,13 @@
 // Months of a round and signed counts, over any size of the round. specs/Walk.antt has the carry and the walk over any row.
+use refusal::Refusal;
 ghost use mathlib.Core.Path.{_≡_};
+ghost use mathlib.Core.Bool.{true};
 ghost use Prim.Native.Nat.{_-_, _≤_, _<_};
 ghost use lib.IntN.{pos, _+ℤ_, _-ℤ_};
-ghost use Rattle.walking.specs.Signed.{signOf, bitsOf, targetOf};
-ghost use Rattle.walking.specs.Paper.{stepsOf};
+ghost use Rattle.walking.specs.Signed.{signOf, bitsOf, targetOf, landingOf};
+ghost use Rattle.walking.specs.Paper.{stepsOf, arrivalOf};
+
+pub mod fields;
 
 // A whole number by its sign: Up(n) is n and Down(n) is -(n + 1), so that every i64 has its side and none overflows.
 pub enum Sign {
@@ -51,6 +55,27 @@ pub fn reach(size: u64, month: u64, count: i64) -> Target
     }
 }
 
+// What a carry comes to: a month of the round, or why it is refused.
+pub enum Landing {
+    Month(u64),
+    Refused(Refusal),
+}
+
+// A carry from a month, where what was handed in for its row is genuine or isn't.
+pub fn land(size: u64, genuine: bool, month: u64, count: i64) -> Landing
+    requires { ⌜ (genuine ≡ true → month < size) × (size ≤ 9223372036854775808) ⌝ }
+    ensures { λ r. ⌜ r ≡ landingOf size genuine month count ⌝ }
+{
+    if genuine {
+        match reach(size, month, count) {
+            Target::Month(k) => Landing::Month(k),
+            Target::Outside => Landing::Refused(Refusal::Carry),
+        }
+    } else {
+        Landing::Refused(Refusal::Row)
+    }
+}
+
 // How many months one month lies after another, in whole numbers.
 pub fn difference(to: u64, from: u64) -> i64
     requires { ⌜ (to - from < 9223372036854775808) × (from - to < 9223372036854775808) ⌝ }
@@ -89,4 +114,25 @@ pub fn walk_months(size: u64, from: u64, counts: &[i64]) -> Steps
         }
     }
     Steps { month, answered }
+}
+
+// Where a walk comes to: a month, how far that is from the first, and how many of the counts were answered.
+pub struct Arrival {
+    pub month: u64,
+    pub sum: i64,
+    pub answered: usize,
+}
+
+pub fn arrive(size: u64, from: u64, counts: &[i64]) -> Arrival
+    requires { ⌜ (from < size) × (size ≤ 9223372036854775808) ⌝ }
+    ensures { λ r. ⌜ r ≡ arrivalOf size from (now (counts .entry)) ⌝ }
+{
+    let end = walk_months(size, from, counts);
+    // refused counts move nothing, so the sum is how far the walk has come
+    let sum = difference(end.month, from);
+    Arrival {
+        month: end.month,
+        sum,
+        answered: end.answered,
+    }
 }

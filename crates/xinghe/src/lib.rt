@@ -1,4 +1,4 @@
-// The Xinghe calendar for C and Rust: the functions of include/xinghe.h. Each takes any numbers, returns 0 or the number under which it
+// The calendars for C and Rust: the functions of include/xinghe.h, here the Xinghe's. Each takes any numbers, returns 0 or the number under which it
 // refuses, and writes its values as plain numbers to the arrays lent to it: zeros where it refuses.
 use calendar::rows::FIELDS;
 use calendar::rows::RowFields;
@@ -28,6 +28,8 @@ ghost use Rattle.volumes.specs.Reader.{readAnswer, readNumber, readYears};
 ghost use Rattle.reigns.specs.Marked.{markedAnswer, markedNumber, markedMoons};
 ghost use Rattle.mending.specs.Mended.{mendAnswer, afterMend, afterNotes, mendNumber, mendCount};
 
+pub mod of_linde;
+pub mod of_zhengguang;
 pub mod years;
 
 #[no_mangle]
@@ -159,13 +161,13 @@ pub extern "C" fn xinghe_walk(
     out: &mut RowFields,
     totals: &mut [u64; 3],
 ) -> u64
-    ensures { λ r. ⌜ (r ≡ walkNumber (walkAnswerFields (now (row .entry)) (now (counts .entry)))) × (now (out .exit) ≡ rowFields (walkValues (walkAnswerFields (now (row .entry)) (now (counts .entry))) .row)) × (now (totals .exit) ≡ totalsFields (walkValues (walkAnswerFields (now (row .entry)) (now (counts .entry))))) ⌝ }
+    ensures { λ r. ⌜ (r ≡ walkNumber (walkAnswerFields (now (row .entry)) (now (counts .entry)))) × (now (out .exit) ≡ rowFields (walkValues (walkAnswerFields (now (row .entry)) (now (counts .entry))) .row)) × (now (totals .exit) ≡ totalsFields (walkValues (walkAnswerFields (now (row .entry)) (now (counts .entry))) .sum) (walkValues (walkAnswerFields (now (row .entry)) (now (counts .entry))) .answered)) ⌝ }
 {
     let answer = walk::walk_fields(row, counts);
     let end = answer.values();
     let last = end.row;
     *out = last.fields();
-    *totals = fields::walks::totals_fields(end);
+    *totals = fields::walks::totals_fields(end.sum, end.answered);
     answer.number()
 }
 

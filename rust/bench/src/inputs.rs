@@ -36,13 +36,17 @@ pub const VOLUMES: usize = 1 << 9;
 /// How many blocks of a volume are scratched.
 const SCRATCHED: u64 = 4;
 
-struct Random {
+pub struct Random {
     state: u64,
 }
 
 impl Random {
+    pub fn new(seed: u64) -> Self {
+        Self { state: seed }
+    }
+
     /// splitmix64
-    fn below(&mut self, limit: u64) -> u64 {
+    pub fn below(&mut self, limit: u64) -> u64 {
         self.state = self.state.wrapping_add(0x9e37_79b9_7f4a_7c15);
         let mut z = self.state;
         z = (z ^ (z >> 30)).wrapping_mul(0xbf58_476d_1ce4_e5b9);
@@ -137,17 +141,17 @@ fn volume(&first: &u64) -> Volume {
     volume
 }
 
-fn some<T>(count: usize, make: impl FnMut() -> T) -> Vec<T> {
+pub fn some<T>(count: usize, make: impl FnMut() -> T) -> Vec<T> {
     std::iter::repeat_with(make).take(count).collect()
 }
 
 impl Inputs {
     pub fn new() -> Self {
-        let mut random = Random { state: 1 };
-        let mut volumes_random = Random { state: 2 };
+        let mut random = Random::new(1);
+        let mut volumes_random = Random::new(2);
         let first_years = some(VOLUMES, || volumes_random.first_year());
         let volumes: Vec<Volume> = first_years.iter().map(volume).collect();
-        let mut scratches_random = Random { state: 3 };
+        let mut scratches_random = Random::new(3);
         let scratched = volumes
             .iter()
             .map(|whole| scratches_random.scratched(whole));

@@ -1,11 +1,14 @@
 //! Measures the library against plain Rust and prints a Markdown table.
 
 // The library's own functions, as the C boundary has them; the safe wrappers
-// would add a copy of each answer. The crate is named to have them linked.
+// would add a copy of each answer. The crate is named to have them linked. Not every
+// one of them is measured.
+#[allow(dead_code)]
 #[path = "../../xinghe/src/raw.rs"]
 mod raw;
 use xinghe as _;
 
+mod calendars;
 mod inputs;
 mod measure;
 mod survey;
@@ -316,6 +319,7 @@ fn main() {
     volumes(&inputs).iter().for_each(Line::print);
     reigns(&inputs).iter().for_each(Line::print);
     mendings(&inputs).iter().for_each(Line::print);
+    calendars::lines().for_each(|line| line.print());
     let survey = survey::measure();
     survey.print();
     println!();

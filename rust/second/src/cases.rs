@@ -4,6 +4,7 @@ use std::fmt::Display;
 use std::io::{self, Write};
 
 use crate::ask::{self, Refusal};
+use crate::calendars;
 use crate::fields::{self, RowNumbers, ROW};
 use crate::instants::Cut;
 use crate::mending_cases;
@@ -28,7 +29,8 @@ pub fn write(out: &mut impl Write) -> io::Result<()> {
     for year in spread.chain(SEAM_YEARS) {
         write_year(out, year)?;
     }
-    for line in chapter_heads().chain(edge_lines()) {
+    let lines = chapter_heads().chain(edge_lines());
+    for line in lines.chain(calendars::cases::lines()) {
         out.write_all(line.as_bytes())?;
     }
     Ok(())

@@ -27,7 +27,7 @@ impl Digest {
         self.h2 = (self.h2 * 31_337 + value) % 4_294_967_279;
     }
 
-    fn feed_all(&mut self, values: &[u64]) {
+    pub fn feed_all(&mut self, values: &[u64]) {
         for &value in values {
             self.feed(value);
         }

@@ -12,11 +12,13 @@
 //! years of a reign are found by counting on through the volume ([`reigns`]), and the
 //! first year of a scratched volume by counting down from every sound block
 //! ([`mending`]). [`Walker`] yields the round a year at a time, [`Checkpoints`] finds a
-//! single year, month or day quickly by walking on from a kept state.
+//! single year, month or day quickly by walking on from a kept state. Two further
+//! calendars are walked likewise, each by its own numbers ([`calendars`]).
 
 pub mod anomaly;
 pub mod ask;
 pub mod blocks;
+pub mod calendars;
 pub mod cases;
 pub mod checkpoints;
 pub mod digest;

@@ -1,8 +1,10 @@
-//! The survey: counts and digests for each era and for the round.
+//! The survey: counts and digests for each era and for the round, then for the other
+//! calendars.
 
 use std::io::{self, Write};
 
 use crate::blocks::{Block, Totals, BLOCK};
+use crate::calendars;
 use crate::digest::Digest;
 use crate::mending;
 use crate::numbers::{ERAS, ERA_YEARS};
@@ -163,7 +165,11 @@ pub fn write(out: &mut impl Write) -> io::Result<()> {
         round_digests.add(&digests);
     }
     assert!(walker.next().is_none(), "the eras end before the round");
-    out.write_all(round.line("round", &round_digests).as_bytes())
+    out.write_all(round.line("round", &round_digests).as_bytes())?;
+    for line in calendars::survey::lines() {
+        out.write_all(line.as_bytes())?;
+    }
+    Ok(())
 }
 
 fn survey_era(walker: &mut Walker, volume: &mut Volume) -> (Counts, Digests) {

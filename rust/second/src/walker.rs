@@ -158,18 +158,18 @@ impl MoonWalk {
     }
 }
 
-/// What a month is called in its year.
+/// What a month is called in its year, in this calendar and in others.
 #[derive(Clone, Copy)]
-struct Name {
-    year: u64,
-    place: u64,
-    number: u64,
-    leap: bool,
+pub(crate) struct Name {
+    pub year: u64,
+    pub place: u64,
+    pub number: u64,
+    pub leap: bool,
 }
 
 impl Name {
     /// The solstice's day is in the first month, so that it is never leap.
-    fn first(year: u64) -> Self {
+    pub fn first(year: u64) -> Self {
         Self {
             year,
             place: 0,
@@ -179,7 +179,7 @@ impl Name {
     }
 
     /// A month without a middle term is leap and repeats the number before it.
-    fn next(self, holds_term: bool) -> Self {
+    pub fn next(self, holds_term: bool) -> Self {
         let number = match (holds_term, self.number) {
             (false, same) => same,
             (true, 12) => 1,
@@ -346,7 +346,7 @@ impl Iterator for Walker {
             number: start.year,
             months_before: start.moon.lunation,
             leap_remainder: start.leap_remainder,
-            leap_place: leap_place(&months),
+            leap_place: leap_place(months.iter().map(|month| month.row.leap)),
             solstice: start.term,
             months,
             conjunctions,
@@ -354,11 +354,13 @@ impl Iterator for Walker {
     }
 }
 
-/// The place of the month found without a middle term.
-fn leap_place(months: &[Month]) -> u64 {
-    let mut leaps = months.iter().filter(|month| month.row.leap);
-    let place = leaps.next().map_or(0, |month| month.row.place);
+/// The place of the month found without a middle term, by the leap marks of a year's
+/// months.
+pub(crate) fn leap_place(marks: impl ExactSizeIterator<Item = bool>) -> u64 {
+    let months = marks.len();
+    let mut leaps = (0..).zip(marks).filter(|(_, leap)| *leap);
+    let place = leaps.next().map_or(0, |(place, _)| place);
     assert!(leaps.next().is_none(), "two months without a middle term");
-    assert_eq!(months.len(), if place == 0 { 12 } else { 13 });
+    assert_eq!(months, if place == 0 { 12 } else { 13 });
     place
 }

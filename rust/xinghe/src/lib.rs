@@ -10,13 +10,18 @@
 //! gives, or of those that [`marked`] looks at one with a wrong check or totals that have
 //! fallen, 13 a scratched volume whose first year is not known or whose run leaves the
 //! round. include/xinghe.h says what each value means; the arrays here are in its order.
+//!
+//! Two further calendars have modules of their own, [`zhengguang`] and [`linde`].
 
+mod answers;
+pub mod linde;
 mod raw;
+pub mod zhengguang;
 
+use answers::answer;
+
+pub use answers::{Answer, Walk, YearList};
 pub use raw::ROW;
-
-/// What is answered, or the number of the refusal.
-pub type Answer<T> = Result<T, u64>;
 
 /// A month's row: month of the round, year, place, month number, leap mark,
 /// first day, small remainder, length; and of its new moon: degrees since the
@@ -34,16 +39,6 @@ pub const BLOCK: usize = 512;
 /// The most blocks of a volume that is mended.
 pub const MOST_BLOCKS: usize = 1_024;
 
-/// Where a walk ends.
-#[derive(Clone, Copy, Debug, PartialEq, Eq)]
-pub struct Walk {
-    pub row: Row,
-    /// The sum of the answered counts.
-    pub sum: i64,
-    /// How many counts were answered.
-    pub answered: u64,
-}
-
 /// A planet's stages.
 #[derive(Clone, Copy, Debug, PartialEq, Eq)]
 pub struct Stages {
@@ -58,16 +53,6 @@ pub struct Stages {
 pub struct Marked {
     pub new_moons: u64,
     pub full_moons: u64,
-}
-
-fn answer<const LENGTH: usize>(
-    call: impl FnOnce(&mut [u64; LENGTH]) -> u64,
-) -> Answer<[u64; LENGTH]> {
-    let mut values = [0; LENGTH];
-    match call(&mut values) {
-        0 => Ok(values),
-        number => Err(number),
-    }
 }
 
 /// Months before the year, leap remainder of the chapter, month count, leap
@@ -251,25 +236,8 @@ pub fn mend<'a>(volume: &mut [u8], damaged: &'a mut [u64; MOST_BLOCKS]) -> Answe
 /// Carries a row by each of the counts in turn; those that would lead outside
 /// the round are passed over.
 pub fn walk(row: &Row, counts: &[i64]) -> Answer<Walk> {
-    let mut totals = [0; 3];
-    let last = answer(|out| {
+    answers::walk(|out, totals| {
         // SAFETY: as in `fill_year`; the counts are only read.
-        unsafe { raw::xinghe_walk(row, counts.as_ptr(), counts.len(), out, &mut totals) }
-    })?;
-    let [below, size, answered] = totals;
-    Ok(Walk {
-        row: last,
-        sum: signed(below == 1, size),
-        answered,
+        unsafe { raw::xinghe_walk(row, counts.as_ptr(), counts.len(), out, totals) }
     })
-}
-
-/// No sum reaches past the round, so that its size is far within an `i64`.
-fn signed(below: bool, size: u64) -> i64 {
-    let size = i64::try_from(size).expect("a sum within the round");
-    if below {
-        -size
-    } else {
-        size
-    }
 }

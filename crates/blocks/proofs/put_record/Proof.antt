@@ -1,6 +1,6 @@
 use native.Mathlib.Omega.{arith}
 use Rattle.writing.proofs.Writings.{and-then, wrote-to}
-use Rattle.calendar.proofs.Bits.{as-number}
+use Rattle.walking.proofs.Bits.{as-number}
 use Rattle.blocks.specs.Block.{recordBytes}
 use borrow.Author.Needs.{needs}
 use Rattle.blocks.proofs.put_record.Statement.{statement}

@@ -1,4 +1,7 @@
-use mathlib.Core.Path.{refl}
+use mathlib.Core.Path.{_≡_, refl}
+use mir.Syntax.{w64}
+use mir.Val.{toZ, ofZ}
+use mir.Facts.{toZ-ofZ}
 use borrow.Author.Needs.{needs}
 use Rattle.xinghe.proofs.xinghe_walk.Statement.{statement}
 use Rattle.xinghe.proofs.xinghe_walk.Tie as tie
@@ -20,9 +23,10 @@ number-requires c κs = search needs
 
 returns : tie.Need-returns
 returns c =
-    let v = c .before .before .before .before in
-    rw (c .number .ensures, c .before .totals-fields .ensures, c .before .before .fields .ensures, v .values .ensures, v .before .walk-fields .ensures)
-    (refl, refl, refl)
+    let f = c .before .before .before in
+    let v = f .before .before in
+    let held : toZ w64 (ofZ w64 (v .values .result .sum)) ≡ v .values .result .sum = toZ-ofZ (record { sfits = c .before .before .struct-told .given .1 .0 .1 }) in
+    rw (c .number .ensures, c .before .totals-fields .ensures, held, f .fields .ensures, v .values .ensures, v .before .walk-fields .ensures) (refl, refl, refl)
 
 pub xinghe-walk-spec : {M : Type 1} → statement M
 xinghe-walk-spec =

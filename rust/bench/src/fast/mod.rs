@@ -5,10 +5,12 @@
 //! number returned, same values written, zeros where they refuse. They are
 //! never inlined, since the library's cannot be; what they are made of is.
 //! Those of heads, rows and dates are made for each way to the months before a
-//! year.
+//! year. The functions of the other calendars stand in modules of their own.
 
 mod anomaly;
+mod calendar;
 mod chapter;
+pub mod linde;
 mod mending;
 mod moon;
 mod names;
@@ -18,7 +20,9 @@ mod reigns;
 mod rows;
 mod stages;
 mod volumes;
+pub mod zhengguang;
 
+pub use calendar::Calendar;
 pub use chapter::{Division, MonthsBefore, Table};
 pub use mending::MOST_BLOCKS;
 pub use names::LIST;

@@ -8,6 +8,7 @@
 #[path = "../../src/raw.rs"]
 mod raw;
 
+mod calendars;
 mod carries;
 mod damages;
 mod expected;

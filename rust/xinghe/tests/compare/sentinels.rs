@@ -11,7 +11,7 @@ use crate::random::Random;
 use crate::raw;
 use crate::tally::Tally;
 
-const SENTINEL: u64 = 0x1234_5678_9abc_def1;
+pub const SENTINEL: u64 = 0x1234_5678_9abc_def1;
 
 /// An array that is lent, between numbers that are not.
 #[repr(C)]
@@ -40,6 +40,24 @@ impl<T> Lent<T> {
     }
 }
 
+/// The number that a call returns, and what it writes over other numbers.
+#[track_caller]
+pub fn called<const LENGTH: usize>(
+    call: impl FnOnce(&mut [u64; LENGTH]) -> u64,
+) -> (u64, [u64; LENGTH]) {
+    let mut lent = Lent::new([SENTINEL; LENGTH]);
+    let number = call(&mut lent.out);
+    (number, lent.given_back())
+}
+
+/// What the call of an answer returns and writes: zeros where it is a refusal.
+pub fn written<const LENGTH: usize>(answer: Answer<[u64; LENGTH]>) -> (u64, [u64; LENGTH]) {
+    match answer {
+        Ok(values) => (0, values),
+        Err(number) => (number, [0; LENGTH]),
+    }
+}
+
 /// The safe function starts from zeros, this call from other numbers; both
 /// must come to the same, and to zeros where the answer is a refusal.
 #[track_caller]
@@ -48,13 +66,7 @@ fn compare<const LENGTH: usize>(
     safe: Answer<[u64; LENGTH]>,
     call: impl FnOnce(&mut [u64; LENGTH]) -> u64,
 ) {
-    let mut lent = Lent::new([SENTINEL; LENGTH]);
-    let number = call(&mut lent.out);
-    let expected = match safe {
-        Ok(values) => (0, values),
-        Err(number) => (number, [0; LENGTH]),
-    };
-    tally.same((number, lent.given_back()), expected);
+    tally.same(called(call), written(safe));
 }
 
 fn months(tally: &mut Tally, year: u64, place: u64) {

@@ -9,7 +9,7 @@ use crate::random::Random;
 use crate::tally::Tally;
 
 pub const EDGES: [u64; 6] = [1 << 32, 1 << 63, i64::MAX as u64, u64::MAX - 1, u64::MAX, 0];
-const CUTS: [u64; 12] = [0, 1, 12, 23, 24, 25, 60, 61, 72, 73, 24 << 32, u64::MAX];
+pub const CUTS: [u64; 12] = [0, 1, 12, 23, 24, 25, 60, 61, 72, 73, 24 << 32, u64::MAX];
 /// Year 20 is the first with a month more before it than the chapter gives, the
 /// thirteenth of year 19.
 pub const EDGE_YEARS: [u64; 7] = [1, 2, 3, 19, 20, LAST_YEAR - 1, LAST_YEAR];

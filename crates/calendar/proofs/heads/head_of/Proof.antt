@@ -14,13 +14,10 @@ leap-remainder-requires c κs = search needs
 constants-requires : tie.Need-constants-requires
 constants-requires c κs = search needs
 
-month-count-requires : tie.Need-month-count-requires
-month-count-requires c κs =
+year-months-requires : tie.Need-year-months-requires
+year-months-requires c κs =
     let b = c .before .before in
     rw (c .constants .ensures) (sound, b .before .pre, b .months-before .ensures)
-
-leap-place-requires : tie.Need-leap-place-requires
-leap-place-requires c κs = search needs
 
 winter-solstice-requires : tie.Need-winter-solstice-requires
 winter-solstice-requires c κs = search needs
@@ -28,14 +25,13 @@ winter-solstice-requires c κs = search needs
 returns : tie.Need-returns
 unfolding headOf
 returns c =
-    let n = c .before .before in
-    let r = n .before .before in
+    let m = c .before in
+    let r = m .before .before in
     rw (
       r .before .months-before .ensures,
       r .leap-remainder .ensures,
-      n .month-count .ensures,
-      n .before .constants .ensures,
-      c .before .leap-place .ensures,
+      m .year-months .ensures,
+      m .before .constants .ensures,
       c .winter-solstice .ensures,
     )
     refl
@@ -47,7 +43,6 @@ head-of-spec =
     months-before-requires
     leap-remainder-requires
     constants-requires
-    month-count-requires
-    leap-place-requires
+    year-months-requires
     winter-solstice-requires
     returns)

@@ -7,9 +7,12 @@ use Rattle.reckoning.specs.Means.{newMoon}
 use Rattle.reckoning.proofs.Rows.{year-from}
 use Rattle.reckoning.proofs.Moons.{moon-high}
 use Rattle.lunisolar.specs.Names.{nameOf}
+use Rattle.lunisolar.proofs.Days.{length-is}
 use Rattle.lunisolar.proofs.Rounds.{year-in-round, stands}
+use Rattle.mean_calendar.specs.Months.{monthOf}
 use Rattle.units.specs.Xinghe.{xinghe, means, rule}
 use Rattle.units.proofs.Sound.{sound, laws}
+use Rattle.moon.specs.NewMoons.{newMoonOf, lengthOf}
 use Rattle.calendar.specs.Rows.{rowOf}
 use Rattle.calendar.proofs.Round.{row-day, row-end}
 use borrow.Author.Needs.{needs}
@@ -25,8 +28,11 @@ month a = omega (arith, from a, a .pre .2)
 
 -- the next month's first day
 next : (a : tie.After-length-of) → (let e = a .before .before in e .elements-of .result .moon .day + a .length-of .result ≡ newMoon means (suc (e .before .args .lunation)))
-unfolding rowOf
-next a = let e = a .before .before in rw (a .length-of .ensures, e .elements-of .ensures) (row-end (e .before .args .lunation))
+unfolding rowOf monthOf newMoonOf lengthOf
+next a =
+    let e = a .before .before in
+    let m = e .before .args .lunation in
+    rw (a .length-of .ensures, e .elements-of .ensures, length-is xinghe sound m) (row-end m)
 
 elements-of-requires : tie.Need-elements-of-requires
 elements-of-requires c κs = search needs
@@ -44,7 +50,7 @@ sub-name-from : tie.Need-sub-name-from
 sub-name-from c = from (c .before .before .before .before)
 
 name-from-requires : tie.Need-name-from-requires
-unfolding placeOf rowOf
+unfolding placeOf rowOf monthOf newMoonOf
 name-from-requires c κs =
     let e = c .before .before .before in
     let a = e .before in

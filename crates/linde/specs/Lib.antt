@@ -1,0 +1,2 @@
+pub mod Linde
+pub mod Cases

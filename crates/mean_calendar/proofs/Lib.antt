@@ -1,0 +1,6 @@
+pub mod Found
+pub mod Points
+pub mod Lawful
+pub mod Refusals
+pub mod Stays
+pub mod LeapYears

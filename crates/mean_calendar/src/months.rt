@@ -1,0 +1,90 @@
+// The months of a calendar.
+use crate::MeanHead;
+use crate::MeanMonth;
+use crate::MeanMonthAnswer;
+use crate::parts::DayShare;
+use crate::parts::over_day;
+use lunisolar::Constants;
+use lunisolar::LunationAnswer;
+use lunisolar::naming::MonthName;
+ghost use mathlib.Core.Path.{_≡_};
+ghost use Prim.Native.Nat.{_*_, _<_};
+ghost use Rattle.reckoning.specs.Rule.{yearOf};
+ghost use Rattle.lunisolar.specs.Calendars.{Sound, ruleOf};
+ghost use Rattle.lunisolar.specs.Names.{nameOf};
+ghost use Rattle.mean_calendar.specs.Parts.{overDay};
+ghost use Rattle.mean_calendar.specs.Heads.{yearHead};
+ghost use Rattle.mean_calendar.specs.Months.{monthOf, monthRow};
+ghost use Rattle.mean_calendar.specs.declared.MeanHeadAnswer.{MeanHeadAnswer};
+ghost use Rattle.mean_calendar.specs.declared.MeanMonthAnswer.{MeanMonthAnswer};
+
+// The month whose name and new moon are at hand.
+pub fn month_by(k: Constants, name: MonthName, lunation: u64, moon: DayShare) -> MeanMonth
+    requires { ⌜ Sound k × (name ≡ nameOf k lunation) × (moon ≡ overDay k (lunation * k .month)) ⌝ }
+    ensures { λ r. ⌜ r ≡ monthOf k lunation ⌝ }
+{
+    let remainder = moon.rest;
+    let length = lunisolar::means::length_by(k, remainder.parts);
+    MeanMonth {
+        lunation,
+        year: name.year,
+        place: name.place,
+        number: name.number,
+        leap: name.leap,
+        day: moon.whole,
+        remainder,
+        length,
+    }
+}
+
+// The day and small remainder of a month's new moon.
+fn new_moon(k: Constants, lunation: u64) -> DayShare
+    requires { ⌜ Sound k × (lunation < k .lunations) ⌝ }
+    ensures { λ r. ⌜ r ≡ overDay k (lunation * k .month) ⌝ }
+{
+    over_day(k, lunation * k.month)
+}
+
+// The month whose year, counted from 0, and the months before that year are at hand.
+pub fn month_from(k: Constants, y: u64, before: u64, lunation: u64) -> MeanMonth
+    requires { ⌜ Sound k × (lunation < k .lunations) × (y ≡ yearOf (ruleOf k) lunation) × (before ≡ ruleOf k .before y) ⌝ }
+    ensures { λ r. ⌜ r ≡ monthOf k lunation ⌝ }
+{
+    let moon = new_moon(k, lunation);
+    let next = moon.whole + lunisolar::means::month_length(k, lunation);
+    let name = lunisolar::naming::name_from(k, y, lunation - before, moon.whole, next);
+    month_by(k, name, lunation, moon)
+}
+
+// The month worked out from the origin.
+pub fn month_of(k: Constants, lunation: u64) -> MeanMonth
+    requires { ⌜ Sound k × (lunation < k .lunations) ⌝ }
+    ensures { λ r. ⌜ r ≡ monthOf k lunation ⌝ }
+{
+    let y = lunisolar::rule::year_of(k, lunation);
+    let before = lunisolar::rule::months_before(k, y);
+    month_from(k, y, before, lunation)
+}
+
+pub fn month_row(k: Constants, year: u64, place: u64) -> MeanMonthAnswer
+    requires { ⌜ Sound k ⌝ }
+    ensures { λ r. ⌜ r ≡ monthRow k year place ⌝ }
+{
+    match lunisolar::lunation_at(k, year, place) {
+        LunationAnswer::Lunation(m) => {
+            // the month less its place is the months before its year
+            MeanMonthAnswer::Answered(month_from(k, year - k.first, m - place, m))
+        }
+        LunationAnswer::Refused(e) => MeanMonthAnswer::Refused(e),
+    }
+}
+
+// The month at a place of a year whose head is at hand: one head serves all months of its year.
+pub fn month_under(k: Constants, year: u64, head: MeanHead, place: u64) -> MeanMonth
+    requires { ⌜ Sound k × (MeanHeadAnswer.Answered head ≡ yearHead k year) × (place < head .months) ⌝ }
+    ensures { λ r. ⌜ MeanMonthAnswer.Answered r ≡ monthRow k year place ⌝ }
+{
+    let name = lunisolar::naming::name_under(k, year - k.first, head.leap, place);
+    let lunation = head.before + place;
+    month_by(k, name, lunation, new_moon(k, lunation))
+}

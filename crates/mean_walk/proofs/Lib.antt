@@ -1,0 +1,3 @@
+pub mod HandedIn
+pub mod Demand3
+pub mod Refusals
