@@ -13,7 +13,7 @@ fn head_of(y: u64) -> YearHead
 {
     let before = units::chapter::months_before(y);
     let remainder = Xinghe::leap_remainder(y);
-    let months = lunisolar::rule::year_months(Xinghe::constants(), y, before);
+    let months = units::chapter::year_months(y, before);
     let solstice = sun::winter_solstice(y);
     YearHead {
         before,

@@ -68,7 +68,10 @@ fn row_named(name: MonthName, lunation: u64, elements: Elements) -> MonthRow
             parts: remainder.parts,
         },
     };
-    let month = mean_calendar::months::month_by(Xinghe::constants(), name, lunation, share);
+    // by the same comparison as the addition to the next new moon, so that it is made once
+    let length = moon::length_of(remainder);
+    let k = Xinghe::constants();
+    let month = mean_calendar::months::month_by(k, name, lunation, share, length);
     let distance = elements.passage.distance();
     let residue = distance.remainder;
     let side = elements.passage.side(lunation);

@@ -1,17 +1,9 @@
 // The values of the Zhengguang's and the Linde's answers as numbers, in the order of include/xinghe.h.
 use mean_calendar::MeanHead;
-use mean_calendar::MeanMonth;
 use mean_calendar::MeanPoint;
-use mean_calendar::carries::MonthFields;
-use mean_year::PLACES;
 use zhengguang::MonthNodes;
 use zhengguang::ZhengguangHead;
-use zhengguang::ZhengguangRow;
-use zhengguang::rows::RowFields;
 ghost use mathlib.Core.Path.{_≡_};
-ghost use mathlib.Core.List.{map};
-ghost use Rattle.mean_calendar.specs.Months.{monthFields};
-ghost use Rattle.zhengguang.specs.Rows.{rowFields};
 ghost use Rattle.fields.specs.Calendars.{meanHeadFields, meanPointFields, zhengguangHeadFields, monthNodesFields};
 
 pub fn mean_head_fields(head: MeanHead) -> [u64; 5]
@@ -64,29 +56,4 @@ pub fn month_nodes_fields(nodes: MonthNodes) -> [u64; 6]
         full_rest.parts,
         full.half,
     ]
-}
-
-// The months of a year, and the rows of a year.
-pub fn month_list(months: [MeanMonth; PLACES]) -> [MonthFields; PLACES]
-    ensures { λ r. ⌜ r ≡ map monthFields months ⌝ }
-{
-    let mut list = [MeanMonth::zero().fields(); PLACES];
-    let mut i = 0;
-    while i < PLACES {
-        list[i] = months[i].fields();
-        i += 1;
-    }
-    list
-}
-
-pub fn row_list(rows: [ZhengguangRow; PLACES]) -> [RowFields; PLACES]
-    ensures { λ r. ⌜ r ≡ map rowFields rows ⌝ }
-{
-    let mut list = [ZhengguangRow::zero().fields(); PLACES];
-    let mut i = 0;
-    while i < PLACES {
-        list[i] = rows[i].fields();
-        i += 1;
-    }
-    list
 }

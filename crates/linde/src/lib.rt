@@ -10,14 +10,16 @@ use mean_calendar::MeanPointAnswer;
 use mean_calendar::carries::MonthFields;
 use mean_walk::MeanWalkAnswer;
 use mean_year::MeanYear;
+use mean_year::PLACES;
 ghost use mathlib.Core.Path.{_≡_};
+ghost use mathlib.Core.List.{map};
 ghost use lib.IntN.{pos, negsuc};
 ghost use Rattle.lunisolar.specs.Calendars.{Sound};
 ghost use Rattle.lunisolar.specs.Dates.{dayOfDate, dateOfDay};
 ghost use Rattle.mean_calendar.specs.Heads.{yearHead};
-ghost use Rattle.mean_calendar.specs.Months.{monthRow};
+ghost use Rattle.mean_calendar.specs.Months.{monthRow, monthFields};
 ghost use Rattle.mean_calendar.specs.Points.{cutPoint};
-ghost use Rattle.mean_calendar.specs.Carries.{carried, carriedFields};
+ghost use Rattle.mean_calendar.specs.Carries.{carried, genuineFields, carriedFields};
 ghost use Rattle.mean_walk.specs.Walked.{walkAnswer, walkAnswerFields};
 ghost use Rattle.mean_year.specs.Years.{meanYear};
 ghost use Rattle.linde.specs.Linde.{linde};
@@ -61,13 +63,17 @@ impl Linde {
     pub fn year_head(year: u64) -> MeanHeadAnswer
         ensures { λ r. ⌜ r ≡ yearHead linde year ⌝ }
     {
-        mean_calendar::heads::year_head(Linde::constants(), year)
+        let k = Linde::constants();
+        let first = lunisolar::lunation_at(k, year, 0);
+        mean_calendar::heads::head_for(k, year, first)
     }
 
     pub fn month_row(year: u64, place: u64) -> MeanMonthAnswer
         ensures { λ r. ⌜ r ≡ monthRow linde year place ⌝ }
     {
-        mean_calendar::months::month_row(Linde::constants(), year, place)
+        let k = Linde::constants();
+        let month = lunisolar::lunation_at(k, year, place);
+        mean_calendar::months::month_for(k, year, place, month)
     }
 
     pub fn day_of_date(year: u64, place: u64, day: u64) -> DayAnswer
@@ -88,47 +94,68 @@ impl Linde {
         mean_calendar::cuts::cut_point(Linde::constants(), year, cut, index)
     }
 
-    // The month so many months on, or back.
+    // Whether a month handed in as numbers is the one of the calendar that it names.
+    fn is_genuine(fields: &MonthFields) -> bool
+        ensures { λ r. ⌜ r ≡ genuineFields linde (now (fields .entry)) ⌝ }
+    {
+        mean_calendar::carries::is_genuine(Linde::constants(), fields)
+    }
+
+    // The month so many months on, or back, of a month handed in as numbers.
+    pub fn carry_fields(fields: &MonthFields, count: i64) -> MeanMonthAnswer
+        ensures { λ r. ⌜ r ≡ carriedFields linde (now (fields .entry)) count ⌝ }
+    {
+        let genuine = Linde::is_genuine(fields);
+        mean_calendar::carries::carry_tested(Linde::constants(), genuine, fields, count)
+    }
+
+    // The same of a month.
     pub fn carry(month: MeanMonth, count: i64) -> MeanMonthAnswer
         ensures { λ r. ⌜ r ≡ carried linde month count ⌝ }
     {
-        month.carry(Linde::constants(), count)
+        let fields = month.fields();
+        Linde::carry_fields(&fields, count)
     }
 
     pub fn next(month: MeanMonth) -> MeanMonthAnswer
         ensures { λ r. ⌜ r ≡ carried linde month (pos 1) ⌝ }
     {
-        month.next(Linde::constants())
+        Linde::carry(month, 1)
     }
 
     pub fn back(month: MeanMonth) -> MeanMonthAnswer
         ensures { λ r. ⌜ r ≡ carried linde month (negsuc 0) ⌝ }
     {
-        month.back(Linde::constants())
-    }
-
-    // The same of a month handed in as numbers.
-    pub fn carry_fields(fields: &MonthFields, count: i64) -> MeanMonthAnswer
-        ensures { λ r. ⌜ r ≡ carriedFields linde (now (fields .entry)) count ⌝ }
-    {
-        mean_calendar::carries::carry_fields(Linde::constants(), fields, count)
-    }
-
-    pub fn walk(start: MeanMonth, counts: &[i64]) -> MeanWalkAnswer
-        ensures { λ r. ⌜ r ≡ walkAnswer linde start (now (counts .entry)) ⌝ }
-    {
-        mean_walk::walk(Linde::constants(), start, counts)
+        Linde::carry(month, -1)
     }
 
     pub fn walk_fields(start: &MonthFields, counts: &[i64]) -> MeanWalkAnswer
         ensures { λ r. ⌜ r ≡ walkAnswerFields linde (now (start .entry)) (now (counts .entry)) ⌝ }
     {
-        mean_walk::walk_fields(Linde::constants(), start, counts)
+        let genuine = Linde::is_genuine(start);
+        mean_walk::walk_tested(Linde::constants(), genuine, start, counts)
+    }
+
+    pub fn walk(start: MeanMonth, counts: &[i64]) -> MeanWalkAnswer
+        ensures { λ r. ⌜ r ≡ walkAnswer linde start (now (counts .entry)) ⌝ }
+    {
+        let fields = start.fields();
+        Linde::walk_fields(&fields, counts)
     }
 
     pub fn year_by_value(year: u64) -> MeanYear
         ensures { λ r. ⌜ r ≡ meanYear linde year ⌝ }
     {
-        mean_year::year_by_value(Linde::constants(), year)
+        let head = Linde::year_head(year);
+        mean_year::year_under(Linde::constants(), year, head)
+    }
+
+    // The same with the months as numbers in a lent array.
+    pub fn write_year(year: u64, rows: &mut [MonthFields; PLACES]) -> MeanHeadAnswer
+        ensures { λ r. ⌜ (r ≡ yearHead linde year) × (now (rows .exit) ≡ map monthFields (meanYear linde year .months)) ⌝ }
+    {
+        let head = Linde::year_head(year);
+        mean_year::write_months(Linde::constants(), year, head, rows);
+        head
     }
 }

@@ -1,8 +1,9 @@
 -- The days of a calendar: each lies in exactly one month, and date to day number and day number to date undo one another.
 -- Assumes nothing.
 use mathlib.Core.Path.{_≡_, _∙_, refl, sym, ap}
-use Prim.Native.Nat.{ℕ, suc, _+_, _-_, _<_, _≤_}
+use Prim.Native.Nat.{ℕ, suc, _+_, _-_, _*_, _<_, _≤_}
 use native.Mathlib.Omega.{arith}
+use native.Mathlib.Nat.{div-add-mod'}
 use borrow.Author.Tests.{lt-ltb}
 use Rattle.reckoning.specs.Search.{between}
 use Rattle.reckoning.specs.Means.{newMoon, newMoonRest}
@@ -34,6 +35,17 @@ module _ (k : Constants) (s : Sound k) where
   pub next-day : (m : ℕ) → newMoon (meansOf k) m + monthDays k m ≡ newMoon (meansOf k) (suc m)
   unfolding monthDays
   next-day m = omega (arith, days-climb k s .step m)
+
+  -- a month on, the small remainder is a month's parts more, and the parts of its days less
+  pub next-rest : (m : ℕ) → newMoonRest (meansOf k) (suc m) + monthDays k m * k .day ≡ newMoonRest (meansOf k) m + k .month
+  unfolding newMoon newMoonRest
+  next-rest m =
+      omega (
+        arith,
+        div-add-mod' (m * k .month) (k .day),
+        div-add-mod' (suc m * k .month) (k .day),
+        ap (λ (x : ℕ). x * k .day) (next-day m),
+      )
 
   -- its length by the small remainder
   pub length-is : (m : ℕ) → lengthBy k (newMoonRest (meansOf k) m) ≡ monthDays k m

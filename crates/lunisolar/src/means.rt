@@ -17,7 +17,7 @@ pub fn new_moon_day(k: Constants, m: u64) -> u64
 }
 
 // The days of a month by its small remainder: the next new moon need not be worked out.
-pub fn length_by(k: Constants, rest: u64) -> u64
+fn length_by(k: Constants, rest: u64) -> u64
     requires { ⌜ Sound k ⌝ }
     ensures { λ r. ⌜ r ≡ lengthBy k rest ⌝ }
 {

@@ -62,17 +62,10 @@ fn near_leap(k: Constants, y: u64, before: u64) -> u64
     (12 * gap - 1) / gain
 }
 
-// The place of the leap month of year y, from the months before the year; 0 where it has none.
-pub fn leap_place(k: Constants, y: u64, before: u64) -> u64
-    requires { ⌜ Sound k × (y < 1048576) × (before ≡ ruleOf k .before y) ⌝ }
-    ensures { λ r. ⌜ r ≡ leapPlace (ruleOf k) y ⌝ }
-{
-    leap_beside(k, y, before, near_leap(k, y, before))
-}
-
-// The same from a place that is its own or next to it; where the year has none, any place serves that has a term before it. That place and the one before are looked at in every year, and what they tell is taken times 0
-// or 1: a jump would often be guessed wrongly. The bound on the place leaves room for the figures; it need not be one of the year's.
-pub fn leap_beside(k: Constants, y: u64, before: u64, near: u64) -> u64
+// The place of the leap month of year y, 0 where it has none, from a place that is its own or next to it; where the year has none, any place serves
+// that has a term before it. That place and the one before are looked at in every year, and what they tell is taken times 0 or 1: a jump would often
+// be guessed wrongly. The bound on the place leaves room for the figures; it need not be one of the year's.
+fn leap_beside(k: Constants, y: u64, before: u64, near: u64) -> u64
     requires { ⌜ Sound k × (y < 1048576) × (before ≡ ruleOf k .before y) × (near < 1048576) × (0 < 12 * y + near) × LeapNear (leapPlace (ruleOf k) y) near ⌝ }
     ensures { λ r. ⌜ r ≡ leapPlace (ruleOf k) y ⌝ }
 {
@@ -90,18 +83,26 @@ pub struct YearMonths {
     pub leap: u64,
 }
 
-// Of year y, from the months before it.
-pub fn year_months(k: Constants, y: u64, before: u64) -> YearMonths
-    requires { ⌜ Sound k × (y < 1048576) × (before ≡ ruleOf k .before y) ⌝ }
+// Of year y, from the months before it and a place that is its leap month's or next to it.
+pub fn months_near(k: Constants, y: u64, before: u64, near: u64) -> YearMonths
+    requires { ⌜ Sound k × (y < 1048576) × (before ≡ ruleOf k .before y) × (near < 1048576) × (0 < 12 * y + near) × LeapNear (leapPlace (ruleOf k) y) near ⌝ }
     ensures { λ r. ⌜ r ≡ yearMonths k y ⌝ }
 {
     let count = month_count(k, y, before);
-    let leap = leap_place(k, y, before);
+    let leap = leap_beside(k, y, before, near);
     YearMonths {
         before,
         count,
         leap,
     }
+}
+
+// Of year y, from the months before it.
+pub fn year_months(k: Constants, y: u64, before: u64) -> YearMonths
+    requires { ⌜ Sound k × (y < 1048576) × (before ≡ ruleOf k .before y) ⌝ }
+    ensures { λ r. ⌜ r ≡ yearMonths k y ⌝ }
+{
+    months_near(k, y, before, near_leap(k, y, before))
 }
 
 // The year of month m: the last whose solstice falls before the next month's first day.

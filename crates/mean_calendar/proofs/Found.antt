@@ -3,14 +3,16 @@
 use mathlib.Core.Path.{_≡_, _∙_, refl, sym, ap}
 use Prim.Native.Nat.{ℕ, _+_, _-_, _≤_, _<_}
 use native.Mathlib.Omega.{arith}
-use borrow.Author.Tests.{le-ltb}
+use borrow.Author.Tests.{le-ltb, lt-ltb}
 use Rattle.reckoning.specs.Rule.{monthCount}
+use Rattle.reckoning.proofs.Leaps.{year-low, year-ends}
 use Rattle.refusal.specs.declared.Refusal.{Refusal}
-use Rattle.lunisolar.specs.Calendars.{Stands, ruleOf, yearAt, lunationFor, lunationAt}
+use Rattle.lunisolar.specs.Calendars.{Sound, Stands, ruleOf, yearAt, lunationFor, lunationAt}
 use Rattle.lunisolar.specs.declared.Constants.{Constants}
 use Rattle.lunisolar.specs.declared.YearAnswer.{YearAnswer}
 use Rattle.lunisolar.specs.declared.LunationAnswer.{LunationAnswer}
-use Rattle.lunisolar.proofs.Laws.{year-found, lunation-at}
+use Rattle.lunisolar.proofs.Laws.{lawsOf, year-found, year-at, lunation-at}
+use Rattle.lunisolar.proofs.Rounds.{found}
 use Rattle.mean_calendar.specs.Heads.{headOf, headFor, yearHead}
 use Rattle.mean_calendar.specs.Months.{monthOf, monthFor, monthRow}
 use Rattle.mean_calendar.specs.declared.MeanHead.{MeanHead}
@@ -87,3 +89,24 @@ module _ (k : Constants) where
       go : (a : YearAnswer) → MeanHeadAnswer.Refused x ≡ headFor k a → lunationFor k a p ≡ LunationAnswer.Refused x
       go (YearAnswer.Past y) e = let bad : _≡_ {A = ℕ} 0 1 = cc in absurd (omega arith)
       go (YearAnswer.Refused z) e = let q : x ≡ z = cc in rw q refl
+
+  -- a year is answered where its first month is, and as that is
+  module _ (s : Sound k) where
+    pub first-head : (n m : ℕ) → LunationAnswer.Lunation m ≡ lunationAt k n 0 → MeanHeadAnswer.Answered (headOf k (n - k .first)) ≡ yearHead k n
+    unfolding headFor
+    first-head n m e =
+        let f = found k s n 0 m e in
+        let w : n - k .first + k .first ≡ n = omega (arith, f .0) in
+        ap (headFor k) (sym (year-at k (n - k .first) (f .1 .year)) ∙ ap (yearAt k) w)
+
+    pub no-first : (n : ℕ) (x : Refusal) → LunationAnswer.Refused x ≡ lunationAt k n 0 → MeanHeadAnswer.Refused x ≡ yearHead k n
+    unfolding headFor lunationFor
+    no-first n x e = go (yearAt k n) e
+      where
+        go : (a : YearAnswer) → LunationAnswer.Refused x ≡ lunationFor k a 0 → MeanHeadAnswer.Refused x ≡ headFor k a
+        go (YearAnswer.Past y) e =
+            let some : 0 < monthCount (ruleOf k) y = omega (arith, year-low (ruleOf k) (lawsOf k s) y, year-ends (ruleOf k) (lawsOf k s) y) in
+            let c : LunationAnswer.Refused x ≡ LunationAnswer.Lunation (ruleOf k .before y + 0) = rw (lt-ltb 0 (monthCount (ruleOf k) y) some) at e in
+            let bad : _≡_ {A = ℕ} 0 1 = cc in
+            absurd (omega arith)
+        go (YearAnswer.Refused z) e = let q : x ≡ z = cc in rw q refl

@@ -4,3 +4,4 @@ pub mod Lawful
 pub mod Refusals
 pub mod Stays
 pub mod LeapYears
+pub mod Terms

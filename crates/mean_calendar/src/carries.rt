@@ -7,10 +7,9 @@ use walking::Landing;
 use walking::fields::bit;
 use walking::fields::same_fields;
 ghost use mathlib.Core.Path.{_≡_};
-ghost use lib.IntN.{pos, negsuc};
 ghost use Rattle.lunisolar.specs.Calendars.{Sound};
 ghost use Rattle.mean_calendar.specs.Months.{monthFields};
-ghost use Rattle.mean_calendar.specs.Carries.{carried, genuineFields, carriedFields};
+ghost use Rattle.mean_calendar.specs.Carries.{genuineFields, carriedFields};
 
 // How many numbers a month has.
 pub const FIELDS: usize = 8;
@@ -50,39 +49,18 @@ pub fn is_genuine(k: Constants, fields: &MonthFields) -> bool
     same_fields(fields, &own)
 }
 
-// The month so many months on, or back, of a month handed in as numbers.
-pub fn carry_fields(k: Constants, fields: &MonthFields, count: i64) -> MeanMonthAnswer
-    requires { ⌜ Sound k ⌝ }
+// The month so many months on, or back, of a month handed in as numbers that were tested.
+pub fn carry_tested(
+    k: Constants,
+    genuine: bool,
+    fields: &MonthFields,
+    count: i64,
+) -> MeanMonthAnswer
+    requires { ⌜ Sound k × (genuine ≡ genuineFields k (now fields)) ⌝ }
     ensures { λ r. ⌜ r ≡ carriedFields k (now (fields .entry)) count ⌝ }
 {
-    let genuine = is_genuine(k, fields);
     match walking::land(k.lunations, genuine, fields[0], count) {
         Landing::Month(m) => MeanMonthAnswer::Answered(month_of(k, m)),
         Landing::Refused(e) => MeanMonthAnswer::Refused(e),
-    }
-}
-
-impl MeanMonth {
-    // The month so many months on, or back.
-    pub fn carry(self, k: Constants, count: i64) -> MeanMonthAnswer
-        requires { ⌜ Sound k ⌝ }
-        ensures { λ r. ⌜ r ≡ carried k self count ⌝ }
-    {
-        let fields = self.fields();
-        carry_fields(k, &fields, count)
-    }
-
-    pub fn next(self, k: Constants) -> MeanMonthAnswer
-        requires { ⌜ Sound k ⌝ }
-        ensures { λ r. ⌜ r ≡ carried k self (pos 1) ⌝ }
-    {
-        self.carry(k, 1)
-    }
-
-    pub fn back(self, k: Constants) -> MeanMonthAnswer
-        requires { ⌜ Sound k ⌝ }
-        ensures { λ r. ⌜ r ≡ carried k self (negsuc 0) ⌝ }
-    {
-        self.carry(k, -1)
     }
 }

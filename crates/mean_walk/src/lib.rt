@@ -5,7 +5,8 @@ use mean_calendar::carries::MonthFields;
 use refusal::Refusal;
 ghost use mathlib.Core.Path.{_≡_};
 ghost use Rattle.lunisolar.specs.Calendars.{Sound};
-ghost use Rattle.mean_walk.specs.Walked.{walkAnswer, walkAnswerFields, walkNumber, walkValues, zeroWalk};
+ghost use Rattle.mean_calendar.specs.Carries.{genuineFields};
+ghost use Rattle.mean_walk.specs.Walked.{walkAnswerFields, walkNumber, walkValues, zeroWalk};
 
 // Where a walk ends, the sum of the answered counts, and how many were answered.
 pub struct MeanWalk {
@@ -53,13 +54,18 @@ impl MeanWalkAnswer {
     }
 }
 
-// A walk from a month handed in as numbers. They are tested, then the number of the month alone is moved, and one month worked out at the end: by
-// demand 3 that is the walk which carries the month by each count.
-pub fn walk_fields(k: Constants, start: &MonthFields, counts: &[i64]) -> MeanWalkAnswer
-    requires { ⌜ Sound k ⌝ }
+// A walk from a month handed in as numbers that were tested. The number of the month alone is moved, and one month worked out at the end: by demand 3
+// that is the walk which carries the month by each count.
+pub fn walk_tested(
+    k: Constants,
+    genuine: bool,
+    start: &MonthFields,
+    counts: &[i64],
+) -> MeanWalkAnswer
+    requires { ⌜ Sound k × (genuine ≡ genuineFields k (now start)) ⌝ }
     ensures { λ r. ⌜ r ≡ walkAnswerFields k (now (start .entry)) (now (counts .entry)) ⌝ }
 {
-    if mean_calendar::carries::is_genuine(k, start) {
+    if genuine {
         let end = walking::arrive(k.lunations, start[0], counts);
         let month = mean_calendar::months::month_of(k, end.month);
         MeanWalkAnswer::Answered(MeanWalk {
@@ -70,12 +76,4 @@ pub fn walk_fields(k: Constants, start: &MonthFields, counts: &[i64]) -> MeanWal
     } else {
         MeanWalkAnswer::Refused(Refusal::Row)
     }
-}
-
-pub fn walk(k: Constants, start: MeanMonth, counts: &[i64]) -> MeanWalkAnswer
-    requires { ⌜ Sound k ⌝ }
-    ensures { λ r. ⌜ r ≡ walkAnswer k start (now (counts .entry)) ⌝ }
-{
-    let fields = start.fields();
-    walk_fields(k, &fields, counts)
 }

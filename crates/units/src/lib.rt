@@ -42,7 +42,7 @@ impl Xinghe {
     // the years and the months of a chapter (章歲, 章月)
     pub const CHAPTER: u64 = 562;
 
-    pub const LUNATIONS: u64 = 6951;
+    pub const CHAPTER_MONTHS: u64 = 6951;
 
     // the months of an era (紀)
     pub const ERA: u64 = 2085300;
@@ -94,7 +94,7 @@ impl Xinghe {
         requires { ⌜ y < 1048576 ⌝ }
         ensures { λ r. ⌜ r ≡ leapRemainder y ⌝ }
     {
-        y * Xinghe::LUNATIONS % Xinghe::CHAPTER
+        y * Xinghe::CHAPTER_MONTHS % Xinghe::CHAPTER
     }
 
     // The year of a month, counted from 0, and the month of a day.

@@ -99,10 +99,7 @@ pub extern "C" fn linde_year(
 ) -> u64
     ensures { λ r. ⌜ (r ≡ headNumber (yearHead linde year)) × (now (head .exit) ≡ meanHeadFields (headValues (yearHead linde year))) × (now (rows .exit) ≡ map monthFields (meanYear linde year .months)) ⌝ }
 {
-    let whole = Linde::year_by_value(year);
-    let answer = whole.head;
-    let months = whole.months;
+    let answer = Linde::write_year(year, rows);
     *head = fields::calendars::mean_head_fields(answer.values());
-    *rows = fields::calendars::month_list(months);
     answer.number()
 }

@@ -108,10 +108,7 @@ pub extern "C" fn zhengguang_year(
 ) -> u64
     ensures { λ r. ⌜ (r ≡ headNumber (yearHead year)) × (now (head .exit) ≡ zhengguangHeadFields (headValues (yearHead year))) × (now (rows .exit) ≡ map rowFields (yearRows year .rows)) ⌝ }
 {
-    let whole = zhengguang::years::year_by_value(year);
-    let answer = whole.head;
-    let list = whole.rows;
+    let answer = zhengguang::years::write_year(year, rows);
     *head = fields::calendars::zhengguang_head_fields(answer.values());
-    *rows = fields::calendars::row_list(list);
     answer.number()
 }

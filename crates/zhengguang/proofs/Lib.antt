@@ -5,3 +5,6 @@ pub mod Whose
 pub mod Calendar
 pub mod Refusals
 pub mod Starred
+pub mod Distances
+pub mod Chapter
+pub mod Places

@@ -14,7 +14,7 @@ fn leap_remainder(y: u64) -> u64
     requires { ⌜ y ≤ 1048576 ⌝ }
     ensures { λ r. ⌜ r ≡ leapRemainder y ⌝ }
 {
-    y * Zhengguang::LUNATIONS % Zhengguang::CHAPTER
+    y * Zhengguang::CHAPTER_MONTHS % Zhengguang::CHAPTER
 }
 
 // The head of a year from any calendar's.
@@ -31,11 +31,17 @@ pub fn head_by(year: u64, mean: MeanHeadAnswer) -> ZhengguangHeadAnswer
     }
 }
 
+// Any calendar's head of a year.
+pub fn mean_head(year: u64) -> MeanHeadAnswer
+    ensures { λ r. ⌜ r ≡ heads.yearHead zhengguang year ⌝ }
+{
+    let k = Zhengguang::constants();
+    let first = lunisolar::lunation_at(k, year, 0);
+    mean_calendar::heads::head_for(k, year, first)
+}
+
 pub fn year_head(year: u64) -> ZhengguangHeadAnswer
     ensures { λ r. ⌜ r ≡ yearHead year ⌝ }
 {
-    head_by(
-        year,
-        mean_calendar::heads::year_head(Zhengguang::constants(), year),
-    )
+    head_by(year, mean_head(year))
 }

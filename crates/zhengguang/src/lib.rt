@@ -81,7 +81,7 @@ impl Zhengguang {
     // the years and the months of a chapter (章歲, 章月)
     pub const CHAPTER: u64 = 505;
 
-    pub const LUNATIONS: u64 = 6246;
+    pub const CHAPTER_MONTHS: u64 = 6246;
 
     // the great round (元): its years, months and days
     pub const YEARS: u64 = 363600;

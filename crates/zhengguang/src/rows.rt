@@ -63,7 +63,9 @@ pub fn row_of(lunation: u64) -> ZhengguangRow
 pub fn month_row(year: u64, place: u64) -> ZhengguangRowAnswer
     ensures { λ r. ⌜ r ≡ monthRow year place ⌝ }
 {
-    match mean_calendar::months::month_row(Zhengguang::constants(), year, place) {
+    let k = Zhengguang::constants();
+    let month = lunisolar::lunation_at(k, year, place);
+    match mean_calendar::months::month_for(k, year, place, month) {
         MeanMonthAnswer::Answered(mean) => ZhengguangRowAnswer::Answered(with_node(mean)),
         MeanMonthAnswer::Refused(e) => ZhengguangRowAnswer::Refused(e),
     }

@@ -1,164 +1,122 @@
 //! The other calendars' rows of the table, with inputs of their own.
 
-use bench::fast::{linde, zhengguang, Calendar};
+use bench::fast::{Boundary, Linde, Zhengguang};
 
-use crate::inputs::{some, Random, COUNT};
+use crate::calendar_inputs::{CalendarInputs, Draw};
+use crate::inputs::Random;
 use crate::measure::{measure, Line};
-use crate::raw;
 
-/// Inputs for a calendar whose rows have so many numbers; all of them are answered.
-struct Inputs<const ROW: usize> {
-    years: Vec<u64>,
-    months: Vec<(u64, u64)>,
-    days: Vec<u64>,
-    carries: Vec<([u64; ROW], i64)>,
+/// The library's functions of each calendar, by the names that both have.
+mod zhengguang {
+    pub use crate::raw::{
+        zhengguang_carry as carry, zhengguang_cut_point as cut_point,
+        zhengguang_date_of_day as date_of_day, zhengguang_day_of_date as day_of_date,
+        zhengguang_month_row as month_row, zhengguang_nodes as nodes, zhengguang_walk as walk,
+        zhengguang_year as year, zhengguang_year_head as year_head,
+    };
 }
 
-/// Draws them, by the month count of a year and the row at a place.
-struct Draw<const ROW: usize> {
-    random: Random,
-    calendar: Calendar,
-    months_of: fn(u64) -> u64,
-    row_at: fn(u64, u64) -> [u64; ROW],
+mod linde {
+    pub use crate::raw::{
+        linde_carry as carry, linde_cut_point as cut_point, linde_date_of_day as date_of_day,
+        linde_day_of_date as day_of_date, linde_month_row as month_row, linde_walk as walk,
+        linde_year as year, linde_year_head as year_head,
+    };
 }
 
-impl<const ROW: usize> Draw<ROW> {
-    fn year(&mut self) -> u64 {
-        let first = self.calendar.first_year;
-        first + self.random.below(self.calendar.last_year - first + 1)
-    }
-
-    fn month(&mut self) -> (u64, u64) {
-        let year = self.year();
-        (year, self.random.below((self.months_of)(year)))
-    }
-
-    /// To a month of the calendar.
-    fn carry(&mut self) -> ([u64; ROW], i64) {
-        let (year, place) = self.month();
-        let row = (self.row_at)(year, place);
-        let to = self.random.below(self.calendar.months);
-        (row, to as i64 - row[0] as i64)
-    }
-
-    fn inputs(mut self) -> Inputs<ROW> {
-        Inputs {
-            years: some(COUNT, || self.year()),
-            months: some(COUNT, || self.month()),
-            days: some(COUNT, || self.random.below(self.calendar.days)),
-            carries: some(COUNT, || self.carry()),
-        }
-    }
-}
-
-/// What a function of the boundary writes for an input that is answered.
-fn answered<const LENGTH: usize>(call: impl FnOnce(&mut [u64; LENGTH]) -> u64) -> [u64; LENGTH] {
-    let mut out = [0; LENGTH];
-    assert_eq!(call(&mut out), 0);
-    out
-}
-
-fn zhengguang_inputs() -> Inputs<{ zhengguang::ROW }> {
-    let draw = Draw {
-        random: Random::new(4),
-        calendar: zhengguang::CALENDAR,
-        months_of: |year| answered(|out| zhengguang::year_head(year, out))[2],
-        row_at: |year, place| answered(|out| zhengguang::month_row(year, place, out)),
+fn drawn<C: Boundary<HEAD, ROW>, const HEAD: usize, const ROW: usize>(
+    seed: u64,
+) -> CalendarInputs<ROW> {
+    let calendar = C::CALENDAR;
+    let mut draw = Draw {
+        random: Random::new(seed),
+        years: calendar.first_year..=calendar.last_year,
+        months: calendar.months,
+        days: calendar.days,
+        month_row: C::month_row,
     };
     draw.inputs()
 }
 
-fn linde_inputs() -> Inputs<{ linde::ROW }> {
-    let draw = Draw {
-        random: Random::new(5),
-        calendar: linde::CALENDAR,
-        months_of: |year| answered(|out| linde::year_head(year, out))[1],
-        row_at: |year, place| answered(|out| linde::month_row(year, place, out)),
+/// The lines of a calendar, by its struct in Rust and its module of the library's
+/// functions, which are so called directly.
+macro_rules! lines_of {
+    ($calendar:ident, $library:ident, $inputs:expr) => {
+        [
+            measure(
+                concat!("head of a year, ", stringify!($calendar)),
+                &$inputs.years,
+                [0; _],
+                |&year, out| $library::year_head(year, out),
+                |&year, out| $calendar::year_head(year, out),
+            ),
+            measure(
+                concat!("row of a month, ", stringify!($calendar)),
+                &$inputs.months,
+                [0; _],
+                |&(year, place), out| $library::month_row(year, place, out),
+                |&(year, place), out| $calendar::month_row(year, place, out),
+            ),
+            measure(
+                concat!("date to day, ", stringify!($calendar)),
+                &$inputs.dates,
+                [0; 2],
+                |&(year, place, day), out| $library::day_of_date(year, place, day, out),
+                |&(year, place, day), out| $calendar::day_of_date(year, place, day, out),
+            ),
+            measure(
+                concat!("day to date, ", stringify!($calendar)),
+                &$inputs.days,
+                [0; 3],
+                |&number, out| $library::date_of_day(number, out),
+                |&number, out| $calendar::date_of_day(number, out),
+            ),
+            measure(
+                concat!("carry, ", stringify!($calendar)),
+                &$inputs.carries,
+                [0; _],
+                |(row, count), out| $library::carry(row, *count, out),
+                |(row, count), out| $calendar::carry(row, *count, out),
+            ),
+            measure(
+                concat!("walk of 1,000 counts, ", stringify!($calendar)),
+                &$inputs.walks,
+                ([0; _], [0; 3]),
+                |(row, counts), (out, totals)| {
+                    // SAFETY: pointer and length are those of a slice.
+                    unsafe { $library::walk(row, counts.as_ptr(), counts.len(), out, totals) }
+                },
+                |(row, counts), (out, totals)| $calendar::walk(row, counts, out, totals),
+            ),
+            measure(
+                concat!("a year by value, ", stringify!($calendar)),
+                &$inputs.years,
+                ([0; _], [[0; _]; 13]),
+                |&year, (head, rows)| $library::year(year, head, rows),
+                |&year, (head, rows)| $calendar::year(year, head, rows),
+            ),
+            measure(
+                concat!("point of a cut, ", stringify!($calendar)),
+                &$inputs.points,
+                [0; 3],
+                |&(year, cut, index), out| $library::cut_point(year, cut, index, out),
+                |&(year, cut, index), out| $calendar::cut_point(year, cut, index, out),
+            ),
+        ]
     };
-    draw.inputs()
 }
 
 pub fn lines() -> impl Iterator<Item = Line> {
-    let zhengguang = zhengguang_lines(&zhengguang_inputs());
-    zhengguang.into_iter().chain(linde_lines(&linde_inputs()))
-}
-
-fn zhengguang_lines(inputs: &Inputs<{ zhengguang::ROW }>) -> [Line; 5] {
-    [
-        measure(
-            "head of a year, Zhengguang",
-            &inputs.years,
-            [0; zhengguang::HEAD],
-            |&year, out| raw::zhengguang_year_head(year, out),
-            |&year, out| zhengguang::year_head(year, out),
-        ),
-        measure(
-            "row of a month, Zhengguang",
-            &inputs.months,
-            [0; zhengguang::ROW],
-            |&(year, place), out| raw::zhengguang_month_row(year, place, out),
-            |&(year, place), out| zhengguang::month_row(year, place, out),
-        ),
-        measure(
-            "day to date, Zhengguang",
-            &inputs.days,
-            [0; 3],
-            |&number, out| raw::zhengguang_date_of_day(number, out),
-            |&number, out| zhengguang::date_of_day(number, out),
-        ),
-        measure(
-            "carry, Zhengguang",
-            &inputs.carries,
-            [0; zhengguang::ROW],
-            |(row, count), out| raw::zhengguang_carry(row, *count, out),
-            |(row, count), out| zhengguang::carry(row, *count, out),
-        ),
-        measure(
-            "a year by value, Zhengguang",
-            &inputs.years,
-            ([0; zhengguang::HEAD], [[0; zhengguang::ROW]; 13]),
-            |&year, (head, rows)| raw::zhengguang_year(year, head, rows),
-            |&year, (head, rows)| zhengguang::year(year, head, rows),
-        ),
-    ]
-}
-
-fn linde_lines(inputs: &Inputs<{ linde::ROW }>) -> [Line; 5] {
-    [
-        measure(
-            "head of a year, Linde",
-            &inputs.years,
-            [0; linde::HEAD],
-            |&year, out| raw::linde_year_head(year, out),
-            |&year, out| linde::year_head(year, out),
-        ),
-        measure(
-            "row of a month, Linde",
-            &inputs.months,
-            [0; linde::ROW],
-            |&(year, place), out| raw::linde_month_row(year, place, out),
-            |&(year, place), out| linde::month_row(year, place, out),
-        ),
-        measure(
-            "day to date, Linde",
-            &inputs.days,
-            [0; 3],
-            |&number, out| raw::linde_date_of_day(number, out),
-            |&number, out| linde::date_of_day(number, out),
-        ),
-        measure(
-            "carry, Linde",
-            &inputs.carries,
-            [0; linde::ROW],
-            |(row, count), out| raw::linde_carry(row, *count, out),
-            |(row, count), out| linde::carry(row, *count, out),
-        ),
-        measure(
-            "a year by value, Linde",
-            &inputs.years,
-            ([0; linde::HEAD], [[0; linde::ROW]; 13]),
-            |&year, (head, rows)| raw::linde_year(year, head, rows),
-            |&year, (head, rows)| linde::year(year, head, rows),
-        ),
-    ]
+    let inputs = drawn::<Zhengguang, _, _>(4);
+    let zhengguang = lines_of!(Zhengguang, zhengguang, inputs);
+    let nodes = measure(
+        "node distances, Zhengguang",
+        &inputs.months,
+        [0; 6],
+        |&(year, place), out| zhengguang::nodes(year, place, out),
+        |&(year, place), out| Zhengguang::nodes(year, place, out),
+    );
+    let inputs = drawn::<Linde, _, _>(5);
+    let linde = lines_of!(Linde, linde, inputs);
+    zhengguang.into_iter().chain([nodes]).chain(linde)
 }

@@ -1,20 +1,14 @@
 //! The benchmark's inputs: the same in every run, all of them answered.
 
-use bench::fast::{self, Row, ROW};
+use bench::fast::{self, Division, ROW};
+
+use crate::calendar_inputs::{CalendarInputs, Draw};
 
 /// Enough that no branch predictor learns them by heart.
 pub const COUNT: usize = 1 << 16;
-pub const WALKS: usize = 64;
-pub const STEPS: usize = 1_000;
 
 pub struct Inputs {
-    pub months: Vec<(u64, u64)>,
-    pub dates: Vec<(u64, u64, u64)>,
-    pub days: Vec<u64>,
-    pub carries: Vec<(Row, i64)>,
-    pub walks: Vec<(Row, Vec<i64>)>,
-    pub years: Vec<u64>,
-    pub points: Vec<(u64, u64, u64)>,
+    pub calendar: CalendarInputs<ROW>,
     pub conjunctions: Vec<(u64, u64)>,
     pub planets: Vec<u64>,
     /// Days of the sixty, and how long their list is.
@@ -54,34 +48,6 @@ impl Random {
         (z ^ (z >> 31)) % limit
     }
 
-    fn year(&mut self) -> u64 {
-        1 + self.below(fast::ROUND_YEARS)
-    }
-
-    fn row(&mut self) -> Row {
-        let (year, place) = self.month();
-        let mut row = [0; ROW];
-        assert_eq!(fast::month_row::<fast::Division>(year, place, &mut row), 0);
-        row
-    }
-
-    fn month(&mut self) -> (u64, u64) {
-        let year = self.year();
-        let mut head = [0; 6];
-        assert_eq!(fast::year_head::<fast::Division>(year, &mut head), 0);
-        (year, self.below(head[2]))
-    }
-
-    fn date(&mut self) -> (u64, u64, u64) {
-        let (year, place) = self.month();
-        (year, place, 1 + self.below(29))
-    }
-
-    fn point(&mut self) -> (u64, u64, u64) {
-        let cut = [24, 60, 72][self.below(3) as usize];
-        (self.year(), cut, self.below(cut))
-    }
-
     fn planet(&mut self) -> u64 {
         1 + self.below(5)
     }
@@ -90,13 +56,6 @@ impl Random {
     fn label(&mut self) -> (u64, usize) {
         let short = self.below(2) as usize;
         (1 + self.below(fast::SIXTY), fast::LIST - short)
-    }
-
-    /// To a month of the round.
-    fn carry(&mut self) -> (Row, i64) {
-        let row = self.row();
-        let to = self.below(fast::ROUND_MONTHS);
-        (row, to as i64 - row[0] as i64)
     }
 
     /// Of a volume that ends within the round.
@@ -125,13 +84,6 @@ impl Random {
         }
         volume
     }
-
-    /// Steps of up to a million months either way; a few lead outside.
-    fn walk(&mut self) -> (Row, Vec<i64>) {
-        let counts = (0..STEPS).map(|_| self.below(2_000_001) as i64 - 1_000_000);
-        let counts = counts.collect();
-        (self.row(), counts)
-    }
 }
 
 fn volume(&first: &u64) -> Volume {
@@ -147,7 +99,13 @@ pub fn some<T>(count: usize, make: impl FnMut() -> T) -> Vec<T> {
 
 impl Inputs {
     pub fn new() -> Self {
-        let mut random = Random::new(1);
+        let mut draw = Draw {
+            random: Random::new(1),
+            years: 1..=fast::ROUND_YEARS,
+            months: fast::ROUND_MONTHS,
+            days: fast::ROUND_DAYS,
+            month_row: fast::month_row::<Division>,
+        };
         let mut volumes_random = Random::new(2);
         let first_years = some(VOLUMES, || volumes_random.first_year());
         let volumes: Vec<Volume> = first_years.iter().map(volume).collect();
@@ -156,16 +114,10 @@ impl Inputs {
             .iter()
             .map(|whole| scratches_random.scratched(whole));
         Self {
-            months: some(COUNT, || random.month()),
-            dates: some(COUNT, || random.date()),
-            days: some(COUNT, || random.below(fast::ROUND_DAYS)),
-            carries: some(COUNT, || random.carry()),
-            walks: some(WALKS, || random.walk()),
-            years: some(COUNT, || random.year()),
-            points: some(COUNT, || random.point()),
-            conjunctions: some(COUNT, || (random.year(), random.planet())),
-            planets: some(COUNT, || random.planet()),
-            labels: some(COUNT, || random.label()),
+            calendar: draw.inputs(),
+            conjunctions: some(COUNT, || (draw.year(), draw.random.planet())),
+            planets: some(COUNT, || draw.random.planet()),
+            labels: some(COUNT, || draw.random.label()),
             scratched: scratched.collect(),
             volumes,
             spans: some(COUNT, || volumes_random.span(&first_years)),

@@ -1,19 +1,19 @@
 //! Measures the library against plain Rust and prints a Markdown table.
 
 // The library's own functions, as the C boundary has them; the safe wrappers
-// would add a copy of each answer. The crate is named to have them linked. Not every
-// one of them is measured.
-#[allow(dead_code)]
+// would add a copy of each answer. The crate is named to have them linked.
 #[path = "../../xinghe/src/raw.rs"]
 mod raw;
 use xinghe as _;
 
+mod calendar_inputs;
 mod calendars;
 mod inputs;
 mod measure;
 mod survey;
 
 use bench::fast::{self, Division, MonthsBefore, Row, Table, ROW};
+use calendar_inputs::CalendarInputs;
 use inputs::{Inputs, Volume, VOLUME_YEARS};
 use measure::{measure, Line};
 
@@ -27,7 +27,10 @@ type Stages = ([u64; 1], [[u64; 10]; 14]);
 type Mended = (Volume, [u64; fast::MOST_BLOCKS], [u64; 1]);
 
 /// The jobs that stand on the months before a year, by one way to them in Rust.
-fn years_and_dates<B: MonthsBefore>(inputs: &Inputs, names: [&'static str; 7]) -> [Line; 7] {
+fn years_and_dates<B: MonthsBefore>(
+    inputs: &CalendarInputs<ROW>,
+    names: [&'static str; 7],
+) -> [Line; 7] {
     [
         measure(
             names[0],
@@ -108,17 +111,26 @@ fn library_walk((row, counts): &(Row, Vec<i64>), end: &mut End) -> u64 {
     unsafe { raw::xinghe_walk(row, counts.as_ptr(), counts.len(), out, totals) }
 }
 
-fn cuts(inputs: &Inputs) -> Line {
-    measure(
-        "point of a cut",
-        &inputs.points,
-        [0; 3],
-        |&(year, cut, index), out| raw::xinghe_cut_point(year, cut, index, out),
-        |&(year, cut, index), out| fast::cut_point(year, cut, index, out),
-    )
+fn cuts(inputs: &CalendarInputs<ROW>) -> [Line; 2] {
+    [
+        measure(
+            "point of a cut",
+            &inputs.points,
+            [0; 3],
+            |&(year, cut, index), out| raw::xinghe_cut_point(year, cut, index, out),
+            |&(year, cut, index), out| fast::cut_point(year, cut, index, out),
+        ),
+        measure(
+            "the same, in Rust by a division in 32 bits",
+            &inputs.points,
+            [0; 3],
+            |&(year, cut, index), out| raw::xinghe_cut_point(year, cut, index, out),
+            |&(year, cut, index), out| fast::cut_point_by_division(year, cut, index, out),
+        ),
+    ]
 }
 
-fn moons(inputs: &Inputs) -> [Line; 4] {
+fn moons(inputs: &CalendarInputs<ROW>) -> [Line; 4] {
     [
         measure(
             "phases",
@@ -304,16 +316,17 @@ fn mendings(inputs: &Inputs) -> [Line; 4] {
 
 fn main() {
     let inputs = Inputs::new();
+    let calendar = &inputs.calendar;
     println!("| job | library, ns per call | Rust, ns per call | library / Rust |");
     println!("|---|---|---|---|");
-    for line in years_and_dates::<Division>(&inputs, BY_DIVISION) {
+    for line in years_and_dates::<Division>(calendar, BY_DIVISION) {
         line.print();
     }
-    for line in years_and_dates::<Table>(&inputs, BY_TABLE) {
+    for line in years_and_dates::<Table>(calendar, BY_TABLE) {
         line.print();
     }
-    cuts(&inputs).print();
-    moons(&inputs).iter().for_each(Line::print);
+    cuts(calendar).iter().for_each(Line::print);
+    moons(calendar).iter().for_each(Line::print);
     planets(&inputs).iter().for_each(Line::print);
     names(&inputs).iter().for_each(Line::print);
     volumes(&inputs).iter().for_each(Line::print);

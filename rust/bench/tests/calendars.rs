@@ -1,6 +1,6 @@
 //! The plain Rust's other calendars against the second program's, refusals included.
 
-use bench::fast::{linde, zhengguang, Calendar};
+use bench::fast::{Boundary, Calendar, Linde, Zhengguang};
 use second::ask::Refusal;
 use second::calendars::fields::{self, Numbers};
 use second::calendars::{ask, Checkpoints, LINDE, ZHENGGUANG};
@@ -16,9 +16,12 @@ struct Fast {
     calendar: Calendar,
     head: fn(u64) -> Called,
     row: fn(u64, u64) -> Called,
+    day: fn(u64, u64, u64) -> Called,
     date: fn(u64) -> Called,
     carry: fn(&[u64], i64) -> Called,
+    walk: fn(&[u64], &[i64]) -> Called,
     year: fn(u64) -> Called,
+    cut: fn(u64, u64, u64) -> Called,
 }
 
 fn called<const LENGTH: usize>(call: impl FnOnce(&mut [u64; LENGTH]) -> u64) -> Called {
@@ -27,11 +30,19 @@ fn called<const LENGTH: usize>(call: impl FnOnce(&mut [u64; LENGTH]) -> u64) -> 
     (number, out.to_vec())
 }
 
+fn called_walk<const ROW: usize>(
+    call: impl FnOnce(&mut [u64; ROW], &mut [u64; 3]) -> u64,
+) -> Called {
+    let mut totals = [OTHER; 3];
+    let (number, row) = called(|out| call(out, &mut totals));
+    (number, [&row[..], &totals].concat())
+}
+
 fn called_year<const HEAD: usize, const ROW: usize>(
     call: impl FnOnce(&mut [u64; HEAD], &mut [[u64; ROW]; 13]) -> u64,
 ) -> Called {
-    let (mut head, mut rows) = ([OTHER; HEAD], [[OTHER; ROW]; 13]);
-    let number = call(&mut head, &mut rows);
+    let mut rows = [[OTHER; ROW]; 13];
+    let (number, head) = called(|out| call(out, &mut rows));
     (number, [&head[..], rows.as_flattened()].concat())
 }
 
@@ -39,28 +50,28 @@ fn row<const ROW: usize>(numbers: &[u64]) -> [u64; ROW] {
     numbers.try_into().expect("a row of the calendar")
 }
 
-fn zhengguang() -> Fast {
+fn fast<C: Boundary<HEAD, ROW>, const HEAD: usize, const ROW: usize>(
+    walked: &'static Checkpoints,
+) -> Fast {
     Fast {
-        walked: &ZHENGGUANG,
-        calendar: zhengguang::CALENDAR,
-        head: |year| called(|out| zhengguang::year_head(year, out)),
-        row: |year, place| called(|out| zhengguang::month_row(year, place, out)),
-        date: |day| called(|out| zhengguang::date_of_day(day, out)),
-        carry: |from, count| called(|out| zhengguang::carry(&row(from), count, out)),
-        year: |year| called_year(|head, rows| zhengguang::year(year, head, rows)),
+        walked,
+        calendar: C::CALENDAR,
+        head: |year| called(|out| C::year_head(year, out)),
+        row: |year, place| called(|out| C::month_row(year, place, out)),
+        day: |year, place, day| called(|out| C::day_of_date(year, place, day, out)),
+        date: |day| called(|out| C::date_of_day(day, out)),
+        carry: |from, count| called(|out| C::carry(&row(from), count, out)),
+        walk: |from, counts| called_walk(|out, totals| C::walk(&row(from), counts, out, totals)),
+        year: |year| called_year(|head, rows| C::year(year, head, rows)),
+        cut: |year, cut, index| called(|out| C::cut_point(year, cut, index, out)),
     }
 }
 
-fn linde() -> Fast {
-    Fast {
-        walked: &LINDE,
-        calendar: linde::CALENDAR,
-        head: |year| called(|out| linde::year_head(year, out)),
-        row: |year, place| called(|out| linde::month_row(year, place, out)),
-        date: |day| called(|out| linde::date_of_day(day, out)),
-        carry: |from, count| called(|out| linde::carry(&row(from), count, out)),
-        year: |year| called_year(|head, rows| linde::year(year, head, rows)),
-    }
+fn both() -> [Fast; 2] {
+    [
+        fast::<Zhengguang, _, _>(&ZHENGGUANG),
+        fast::<Linde, _, _>(&LINDE),
+    ]
 }
 
 /// What is returned and written for a walked answer, zeros where it is refused.
@@ -85,7 +96,7 @@ fn years(calendar: Calendar) -> impl Iterator<Item = u64> {
 
 #[test]
 fn ends() {
-    for fast in [zhengguang(), linde()] {
+    for fast in both() {
         let Calendar { months, days, .. } = fast.calendar;
         assert_eq!((months, days), (fast.walked.months(), fast.walked.days()));
     }
@@ -93,7 +104,7 @@ fn ends() {
 
 #[test]
 fn years_and_months() {
-    for fast in [zhengguang(), linde()] {
+    for fast in both() {
         for number in years(fast.calendar) {
             let year = ask::year(fast.walked, number);
             let head = year.as_ref().map(fields::head).map_err(|refusal| *refusal);
@@ -117,7 +128,7 @@ fn years_and_months() {
 
 #[test]
 fn dates() {
-    for fast in [zhengguang(), linde()] {
+    for fast in both() {
         let days = fast.calendar.days;
         let ends = (0..800).chain(days - 800..days + 2);
         let throughout = (0..days).step_by(14_983);
@@ -128,10 +139,52 @@ fn dates() {
     }
 }
 
+#[test]
+fn days_of_months() {
+    for fast in both() {
+        for year in years(fast.calendar).step_by(7) {
+            for place in 0..14 {
+                for day in [0, 1, 29, 30, 31, u64::MAX] {
+                    let number = ask::day_number(fast.walked, year, place, day);
+                    let called = (fast.day)(year, place, day);
+                    assert_eq!(called, expected(number.map(Vec::from), 2));
+                }
+            }
+        }
+    }
+}
+
+#[test]
+fn cuts() {
+    for fast in both() {
+        for year in years(fast.calendar).step_by(7) {
+            for cut in [0, 24, 25, 60, 72, 24 << 32, u64::MAX] {
+                for index in [0, 1, 23, 24, 59, 60, 71, 72, u64::MAX] {
+                    let point = ask::cut_point(fast.walked, year, cut, index);
+                    let point = point.map(|point| fields::point(point).to_vec());
+                    assert_eq!((fast.cut)(year, cut, index), expected(point, 3));
+                }
+            }
+        }
+    }
+}
+
+#[test]
+fn nodes() {
+    for year in years(Zhengguang::CALENDAR).step_by(7) {
+        for place in (0..14).chain([u64::MAX]) {
+            let month = ask::month(&ZHENGGUANG, year, place);
+            let nodes = month.map(|month| fields::nodes(&month).expect("nodes").to_vec());
+            let called = called(|out| Zhengguang::nodes(year, place, out));
+            assert_eq!(called, expected(nodes, 6));
+        }
+    }
+}
+
 /// From rows throughout the calendar to its ends, past them and elsewhere.
 #[test]
 fn carries() {
-    for fast in [zhengguang(), linde()] {
+    for fast in both() {
         let last = fast.calendar.months - 1;
         for lunation in (0..=last).step_by(9_973).chain([last]) {
             let row = ask::genuine(fast.walked, lunation).expect("a month");
@@ -145,25 +198,50 @@ fn carries() {
     }
 }
 
+/// To the ends, past them and back, and by no count at all.
+#[test]
+fn walks() {
+    for fast in both() {
+        let last = fast.calendar.months - 1;
+        let end = last as i64;
+        let counts = [-1, end, 1, i64::MIN, -end, 7, -8, i64::MAX, end + 1, -2, 0];
+        for lunation in (0..=last).step_by(99_991).chain([last]) {
+            let row = ask::genuine(fast.walked, lunation).expect("a month");
+            for length in 0..=counts.len() {
+                let counts = &counts[..length];
+                let end = ask::walk(fast.walked, &row, counts).expect("a genuine row");
+                let totals = [u64::from(end.sum < 0), end.sum.unsigned_abs(), end.answered];
+                let written = [&end.row[..], &totals].concat();
+                assert_eq!((fast.walk)(&row, counts), (0, written));
+            }
+        }
+    }
+}
+
 /// Each number changed in turn, and rows of no month.
 #[test]
 fn forged_rows() {
-    for fast in [zhengguang(), linde()] {
+    for fast in both() {
         let months = fast.calendar.months;
         for lunation in [0, 32, months / 2, months - 1] {
             let genuine = ask::genuine(fast.walked, lunation).expect("a month");
-            let refused = (4, vec![0; genuine.len()]);
             for index in 0..genuine.len() {
                 for change in [1, 2, 1 << 32, u64::MAX] {
                     let mut forged = genuine.clone();
                     forged[index] = forged[index].wrapping_add(change);
-                    assert_eq!((fast.carry)(&forged, 0), refused);
+                    assert_refused(&fast, &forged);
                 }
             }
             let mut past = vec![0; genuine.len()];
             past[0] = months;
-            assert_eq!((fast.carry)(&past, 0), refused);
-            assert_eq!((fast.carry)(&vec![u64::MAX; genuine.len()], 0), refused);
+            assert_refused(&fast, &past);
+            assert_refused(&fast, &vec![u64::MAX; genuine.len()]);
         }
     }
+}
+
+fn assert_refused(fast: &Fast, forged: &[u64]) {
+    let zeros = vec![0; forged.len() + 3];
+    assert_eq!((fast.walk)(forged, &[1, -1]), (4, zeros.clone()));
+    assert_eq!((fast.carry)(forged, 0), (4, zeros[3..].to_vec()));
 }

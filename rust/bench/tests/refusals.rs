@@ -129,10 +129,12 @@ fn cuts() {
     for year in YEARS {
         for index in PLACES {
             for cut in [0, 24, 25, 60, 72] {
-                let mut point = [OTHER; 3];
-                let number = fast::cut_point(year, cut, index, &mut point);
-                let expected = xinghe::cut_point(year, cut, index);
-                assert_eq!((number, point), numbered(expected));
+                let expected = numbered(xinghe::cut_point(year, cut, index));
+                for job in [fast::cut_point, fast::cut_point_by_division] {
+                    let mut point = [OTHER; 3];
+                    let number = job(year, cut, index, &mut point);
+                    assert_eq!((number, point), expected);
+                }
             }
         }
     }

@@ -1,8 +1,10 @@
 //! The questions of the rules paper with their refusals, answered by the walk.
 
 use crate::checkpoints::Checkpoints;
+use crate::counts::Count;
+use crate::cuts;
 use crate::fields::{self, RowNumbers};
-use crate::instants::{Cut, SunPoint};
+use crate::instants::ASKED_CUTS;
 use crate::planets::Conjunctions;
 use crate::sixty;
 use crate::stages::{self, Stage};
@@ -97,13 +99,9 @@ pub fn fill_year(number: u64, lent: &mut [RowNumbers]) -> Result<usize, Refusal>
 }
 
 /// Point `index` of the cut of a year in `points`.
-pub fn cut_point(number: u64, points: u64, index: u64) -> Result<SunPoint, Refusal> {
-    let year = year(number)?;
-    let mut cuts = Cut::ASKED.into_iter();
-    let cut = cuts.find(|cut| cut.points == points);
-    let cut = cut.filter(|cut| index < cut.points).ok_or(Refusal::Cut)?;
-    let point = year.points(cut).nth(index as usize);
-    Ok(point.expect("a point below the cut"))
+pub fn cut_point(number: u64, points: u64, index: u64) -> Result<Count, Refusal> {
+    let solstice = year(number)?.solstice;
+    cuts::point(ASKED_CUTS, solstice, points, index).ok_or(Refusal::Cut)
 }
 
 /// A planet's conjunctions of a year.

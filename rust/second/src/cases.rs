@@ -6,7 +6,7 @@ use std::io::{self, Write};
 use crate::ask::{self, Refusal};
 use crate::calendars;
 use crate::fields::{self, RowNumbers, ROW};
-use crate::instants::Cut;
+use crate::instants::TERMS;
 use crate::mending_cases;
 use crate::name_cases;
 use crate::numbers::CHAPTER_YEARS;
@@ -49,8 +49,8 @@ fn write_year(out: &mut impl Write, year: u64) -> io::Result<()> {
             out.write_all(question(year, place).as_bytes())?;
         }
     }
-    for index in 0..Cut::TERMS.points {
-        out.write_all(cut(year, Cut::TERMS.points, index).as_bytes())?;
+    for index in 0..TERMS.points() {
+        out.write_all(cut(year, TERMS.points(), index).as_bytes())?;
     }
     Ok(())
 }
@@ -186,7 +186,7 @@ fn corrections(year: u64, place: u64) -> String {
 }
 
 fn cut(year: u64, points: u64, index: u64) -> String {
-    let answer = ask::cut_point(year, points, index).map(|point| joined(&fields::point(&point)));
+    let answer = ask::cut_point(year, points, index).map(|point| joined(&fields::point(point)));
     line(format!("cut {year} {points} {index}"), answer)
 }
 

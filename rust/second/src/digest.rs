@@ -2,7 +2,7 @@
 
 use crate::blocks::Block;
 use crate::fields;
-use crate::instants::Cut;
+use crate::instants::ASKED_CUTS;
 use crate::sixty::{self, GANZHI};
 use crate::walker::{Month, Year};
 
@@ -47,9 +47,9 @@ impl Digest {
 
     /// Everything about the year but its planets.
     pub fn feed_year(&mut self, year: &Year) {
-        for cut in Cut::ASKED {
-            for point in year.points(cut) {
-                self.feed_all(&fields::point(&point));
+        for cut in ASKED_CUTS {
+            for point in cut.walk(year.solstice) {
+                self.feed_all(&fields::point(point));
             }
         }
         for month in &year.months {

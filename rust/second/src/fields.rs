@@ -1,7 +1,7 @@
 //! A year's, a month's and a planet's answers as plain numbers, in the order in
-//! which they are written. Nowhere else is a row listed as numbers.
+//! which they are written. Nowhere else are the Xinghe's rows listed as numbers.
 
-use crate::instants::SunPoint;
+use crate::counts::Count;
 use crate::nodes::Side;
 use crate::planets::{Conjunction, Conjunctions};
 use crate::stages::Stage;
@@ -15,7 +15,7 @@ pub fn head(year: &Year) -> [u64; 6] {
         year.leap_remainder,
         year.months.len() as u64,
         year.leap_place,
-        year.solstice.day,
+        year.solstice.whole,
         year.solstice.remainder,
     ]
 }
@@ -27,6 +27,22 @@ pub const ROW: usize = 13;
 pub type RowNumbers = [u64; ROW];
 
 pub fn row(row: &Row) -> RowNumbers {
+    let moon = &row.moon;
+    let mut numbers = [0; ROW];
+    let (front, behind) = numbers.split_at_mut(8);
+    front.copy_from_slice(&first_eight(row));
+    behind.copy_from_slice(&[
+        moon.since_node.whole,
+        moon.since_node.remainder,
+        side(moon.side),
+        moon.anomaly_day,
+        moon.anomaly_rest,
+    ]);
+    numbers
+}
+
+/// The numbers of a row that every calendar has.
+pub fn first_eight<M>(row: &Row<M>) -> [u64; 8] {
     [
         row.lunation,
         row.year,
@@ -36,11 +52,6 @@ pub fn row(row: &Row) -> RowNumbers {
         row.day,
         row.remainder,
         row.length,
-        row.since_node.whole,
-        row.since_node.remainder,
-        side(row.side),
-        row.anomaly_day,
-        row.anomaly_rest,
     ]
 }
 
@@ -52,8 +63,9 @@ fn side(side: Side) -> u64 {
     }
 }
 
-pub fn point(point: &SunPoint) -> [u64; 3] {
-    [point.day, point.remainder, point.rest]
+/// Of any calendar's cut.
+pub fn point(point: Count) -> [u64; 3] {
+    [point.whole, point.remainder, point.rest]
 }
 
 /// Day, remainder and quarters of each of the four phases.

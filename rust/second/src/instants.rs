@@ -1,5 +1,7 @@
-//! Instants that move by one fixed addition: new moons, phases, points of a cut.
+//! Instants that move by one fixed addition: new moons, phases, points of the cuts.
 
+use crate::counts::Count;
+use crate::cuts::{Cut, SunYear};
 use crate::numbers::{D, N, P};
 use crate::spans::carried;
 
@@ -65,62 +67,18 @@ impl Phase {
     }
 }
 
-/// A cut of the year in equal parts, with the addition from point to point.
-#[derive(Clone, Copy, Debug, PartialEq, Eq)]
-pub struct Cut {
-    pub points: u64,
-    days: u64,
-    remainder: u64,
-    rest: u64,
-}
+const YEAR: SunYear = SunYear {
+    degree_divisor: D,
+    parts: P,
+};
 
-impl Cut {
-    pub const MIDDLE_TERMS: Self = Self::new(12, 30, 7_368, 1);
-    pub const TERMS: Self = Self::new(24, 15, 3_684, 1);
-    pub const HEXAGRAM_DAYS: Self = Self::new(60, 6, 1_473, 37);
-    pub const PENTADS: Self = Self::new(72, 5, 1_228, 1);
-    /// The cuts that may be asked for.
-    pub const ASKED: [Self; 3] = [Self::TERMS, Self::HEXAGRAM_DAYS, Self::PENTADS];
+pub const MIDDLE_TERMS: Cut = Cut::new(YEAR, 12, Count::new(30, 7_368, 1));
+pub const TERMS: Cut = Cut::new(YEAR, 24, Count::new(15, 3_684, 1));
+pub const HEXAGRAM_DAYS: Cut = Cut::new(YEAR, 60, Count::new(6, 1_473, 37));
+pub const PENTADS: Cut = Cut::new(YEAR, 72, Count::new(5, 1_228, 1));
+/// The cuts that may be asked for.
+pub const ASKED_CUTS: [Cut; 3] = [TERMS, HEXAGRAM_DAYS, PENTADS];
 
-    /// Checked while compiling: the steps of a whole year come to P over D.
-    const fn new(points: u64, days: u64, remainder: u64, rest: u64) -> Self {
-        assert!(points * (days * D + remainder) + rest == P);
-        Self {
-            points,
-            days,
-            remainder,
-            rest,
-        }
-    }
-}
-
-// The same check for the steps of the moon.
+// Checked while compiling, as the cuts are.
 const _: () = assert!(NewMoon::DAYS * N + NewMoon::REMAINDER == P);
 const _: () = assert!(4 * (Phase::DAYS * N + Phase::REMAINDER) + Phase::QUARTERS == P);
-
-/// A point of a cut of the year: day, remainder over D, and the rest, counted
-/// in as many parts of one as the cut has points.
-#[derive(Clone, Copy, Debug, PartialEq, Eq)]
-pub struct SunPoint {
-    pub day: u64,
-    pub remainder: u64,
-    pub rest: u64,
-}
-
-impl SunPoint {
-    pub const ORIGIN: Self = Self {
-        day: 0,
-        remainder: 0,
-        rest: 0,
-    };
-
-    pub fn next(self, cut: Cut) -> Self {
-        let (part, rest) = carried(self.rest + cut.rest, cut.points);
-        let (day, remainder) = carried(self.remainder + cut.remainder + part, D);
-        Self {
-            day: self.day + cut.days + day,
-            remainder,
-            rest,
-        }
-    }
-}

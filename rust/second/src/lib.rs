@@ -3,8 +3,8 @@
 //!
 //! Nothing here divides to find where something stands; that is the way of the
 //! program this one is compared with. Days and degrees are added and taken off
-//! with their remainders ([`spans`]), the days of every month are gone through
-//! for a middle term, an eclipse's size is counted along the degree marks, and a
+//! with their remainders ([`spans`], [`counts`]), the days of every month are gone
+//! through for a middle term, an eclipse's size is counted along the degree marks, and a
 //! correction is made up of doublings. The planets are walked from conjunction to
 //! conjunction; their stages are read from the printed text ([`stage_text`]), and
 //! the days of the sixty are counted on one by one ([`sixty`]). A volume's totals
@@ -21,11 +21,14 @@ pub mod blocks;
 pub mod calendars;
 pub mod cases;
 pub mod checkpoints;
+pub mod counts;
+pub mod cuts;
 pub mod digest;
 pub mod fields;
 pub mod instants;
 pub mod mending;
 pub mod mending_cases;
+mod month_counts;
 pub mod name_cases;
 pub mod nodes;
 pub mod numbers;

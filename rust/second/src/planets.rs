@@ -1,6 +1,6 @@
 //! The five planets' conjunctions with the sun, walked from the origin.
 
-use crate::instants::SunPoint;
+use crate::counts::Count;
 use crate::numbers::D;
 use crate::spans::{borrowed, carried};
 
@@ -140,8 +140,8 @@ impl PlanetWalk {
     }
 
     /// Walks on to the conjunction of the year that the solstice begins.
-    pub fn walk_to(&mut self, solstice: SunPoint) -> Conjunctions {
-        let solstice = Days::new(solstice.day, solstice.remainder);
+    pub fn walk_to(&mut self, solstice: Count) -> Conjunctions {
+        let solstice = Days::new(solstice.whole, solstice.remainder);
         while !self.follows(solstice) {
             *self = self.next();
         }

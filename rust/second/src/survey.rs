@@ -7,6 +7,7 @@ use crate::blocks::{Block, Totals, BLOCK};
 use crate::calendars;
 use crate::digest::Digest;
 use crate::mending;
+use crate::month_counts::MonthCounts;
 use crate::numbers::{ERAS, ERA_YEARS};
 use crate::reigns;
 use crate::volumes;
@@ -14,43 +15,31 @@ use crate::walker::{Walker, Year};
 
 #[derive(Default)]
 struct Counts {
-    months: u64,
-    long: u64,
-    /// Years by leap place; those without a leap month stand at 0.
-    leaps: [u64; 13],
+    months: MonthCounts,
     new_moons: u64,
     full_moons: u64,
 }
 
 impl Counts {
     fn count_year(&mut self, year: &Year) {
-        self.leaps[year.leap_place as usize] += 1;
+        let lengths = year.months.iter().map(|month| month.row.length);
+        self.months.count_year(year.leap_place, lengths);
         for month in &year.months {
-            self.months += 1;
-            self.long += u64::from(month.row.length == 30);
             self.new_moons += u64::from(month.new_moon_node.eclipse.marked);
             self.full_moons += u64::from(month.full_moon_node.eclipse.marked);
         }
     }
 
     fn add(&mut self, other: &Self) {
-        self.months += other.months;
-        self.long += other.long;
-        for (sum, leaps) in self.leaps.iter_mut().zip(other.leaps) {
-            *sum += leaps;
-        }
+        self.months.add(&other.months);
         self.new_moons += other.new_moons;
         self.full_moons += other.full_moons;
     }
 
     fn line(&self, title: &str, digests: &Digests) -> String {
-        let leaps = self.leaps[1..].iter().map(u64::to_string);
         format!(
-            "{title} months {} long {} leaps {} new {} full {} digest {} planets {} volume {} \
-             marked {} mended {}\n",
-            self.months,
-            self.long,
-            leaps.collect::<Vec<_>>().join(" "),
+            "{title} {} new {} full {} digest {} planets {} volume {} marked {} mended {}\n",
+            self.months.text(),
             self.new_moons,
             self.full_moons,
             digests.months.value(),

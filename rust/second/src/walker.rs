@@ -3,7 +3,8 @@
 use std::ops::Range;
 
 use crate::anomaly::{AnomalyWalk, Correction};
-use crate::instants::{Cut, NewMoon, Phase, SunPoint};
+use crate::counts::Count;
+use crate::instants::{NewMoon, Phase, MIDDLE_TERMS};
 use crate::nodes::{FullMoonNode, NewMoonNode, NodeWalk, Side};
 use crate::numbers::{
     CHAPTER_LEAPS, CHAPTER_YEARS, ERAS, ERA_YEARS, LAST_DAY, LONG_FROM, ROUND_MONTHS, ROUND_YEARS,
@@ -12,10 +13,11 @@ use crate::planets::{Conjunctions, Planet, PlanetWalk};
 use crate::sixty;
 use crate::spans::{carried, Span};
 
-/// The month row of the rules paper.
+/// The month row of the rules paper: eight fields that every calendar has, and what a
+/// calendar has of the new moon besides.
 #[derive(Clone, Copy, Debug, PartialEq, Eq)]
-pub struct Row {
-    /// Month of the round, from 0.
+pub struct Row<M = Moon> {
+    /// Month of the round or calendar, from 0.
     pub lunation: u64,
     pub year: u64,
     pub place: u64,
@@ -24,10 +26,16 @@ pub struct Row {
     pub day: u64,
     pub remainder: u64,
     pub length: u64,
-    /// The new moon's distance since the last node, and its side.
+    pub moon: M,
+}
+
+/// What the Xinghe has of the new moon.
+#[derive(Clone, Copy, Debug, PartialEq, Eq)]
+pub struct Moon {
+    /// The distance since the last node, and its side.
     pub since_node: Span,
     pub side: Side,
-    /// The new moon's day of the anomaly, and the rest of it.
+    /// The day of the anomaly, and the rest of it.
     pub anomaly_day: u64,
     pub anomaly_rest: u64,
 }
@@ -54,18 +62,10 @@ pub struct Year {
     pub leap_remainder: u64,
     /// Place of the leap month, 0 where there is none.
     pub leap_place: u64,
-    pub solstice: SunPoint,
+    pub solstice: Count,
     pub months: Vec<Month>,
     /// By planet, in the paper's order.
     pub conjunctions: [Conjunctions; 5],
-}
-
-impl Year {
-    /// The points of a cut of this year, walked from the solstice.
-    pub fn points(&self, cut: Cut) -> impl Iterator<Item = SunPoint> {
-        std::iter::successors(Some(self.solstice), move |point| Some(point.next(cut)))
-            .take(cut.points as usize)
-    }
 }
 
 /// What moves from month to month.
@@ -150,10 +150,12 @@ impl MoonWalk {
             day: self.new_moon.day,
             remainder: self.new_moon.remainder,
             length: self.length(),
-            since_node: node.distance,
-            side: node.side,
-            anomaly_day: correction.anomaly_day,
-            anomaly_rest: correction.rest,
+            moon: Moon {
+                since_node: node.distance,
+                side: node.side,
+                anomaly_day: correction.anomaly_day,
+                anomaly_rest: correction.rest,
+            },
         }
     }
 }
@@ -205,7 +207,7 @@ pub struct Walker {
     chapter_months: u64,
     leap_remainder: u64,
     /// The next middle term; at the start of a year its solstice.
-    term: SunPoint,
+    term: Count,
     moon: MoonWalk,
     planets: [PlanetWalk; 5],
 }
@@ -218,7 +220,7 @@ impl Walker {
             era_years_past: 0,
             chapter_months: 0,
             leap_remainder: 0,
-            term: SunPoint::ORIGIN,
+            term: Count::ZERO,
             moon: MoonWalk::ORIGIN,
             planets: Planet::ALL.map(PlanetWalk::at_origin),
         }
@@ -259,7 +261,7 @@ impl Walker {
         let mut terms_met = 0;
         loop {
             let holds = self.month_holds_term();
-            if holds && terms_met == Cut::MIDDLE_TERMS.points {
+            if holds && terms_met == MIDDLE_TERMS.points() {
                 return months;
             }
             if months.is_empty() {
@@ -271,7 +273,7 @@ impl Walker {
             self.moon = self.moon.next();
             if holds {
                 terms_met += 1;
-                self.term = self.term.next(Cut::MIDDLE_TERMS);
+                self.term = MIDDLE_TERMS.next(self.term);
             }
         }
     }
@@ -281,8 +283,8 @@ impl Walker {
     /// have held two.
     fn month_holds_term(&self) -> bool {
         let mut days = self.moon.days();
-        assert!(days.start <= self.term.day);
-        days.any(|day| day == self.term.day)
+        assert!(days.start <= self.term.whole);
+        days.any(|day| day == self.term.whole)
     }
 
     /// The count of eras, and the treatise's yearly addition to the chapter's
@@ -307,8 +309,8 @@ impl Walker {
     fn assert_near_chapter(&self) {
         let moon = &self.moon;
         match moon.lunation - self.chapter_months {
-            0 => assert_ne!(moon.new_moon.next().day, self.term.day),
-            1 => assert_eq!(moon.new_moon.day, self.term.day),
+            0 => assert_ne!(moon.new_moon.next().day, self.term.whole),
+            1 => assert_eq!(moon.new_moon.day, self.term.whole),
             _ => panic!("the walk and the chapter part"),
         }
     }
@@ -322,7 +324,7 @@ impl Walker {
             (moon.new_moon.day, moon.new_moon.remainder),
             (LAST_DAY + 1, 0)
         );
-        assert_eq!((self.term.day, self.term.remainder), (LAST_DAY + 1, 0));
+        assert_eq!((self.term.whole, self.term.remainder), (LAST_DAY + 1, 0));
         assert_eq!((self.leap_remainder, self.era_years_past), (0, 0));
         assert_eq!(self.eras_past as u64, ERAS);
         assert_eq!(moon.sixty, sixty::JIAZI);

@@ -27,7 +27,7 @@ fn head(number: u64) -> (u64, u64, usize, u64) {
 
 fn solstice(number: u64) -> (u64, u64) {
     let solstice = year(number).solstice;
-    (solstice.day, solstice.remainder)
+    (solstice.whole, solstice.remainder)
 }
 
 fn begins(row: &Row) -> (u64, u64, u64) {

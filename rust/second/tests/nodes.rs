@@ -28,8 +28,8 @@ fn heads_are_the_printed_ones() {
 /// The side that the month before gives: turned where a node is passed on the
 /// way, which is where the distance falls. At the node it is read as outside.
 fn stepped(before: &Row, since_node: Span) -> Side {
-    let passed = since_node < before.since_node;
-    match (before.side, passed) {
+    let passed = since_node < before.moon.since_node;
+    match (before.moon.side, passed) {
         (Side::Inside, true) | (Side::Outside | Side::AtNode, false) => Side::Outside,
         (Side::Inside, false) | (Side::Outside | Side::AtNode, true) => Side::Inside,
     }
@@ -42,7 +42,7 @@ fn steps_of_the_side_fail_at_two_heads() {
     let mut before = rows.next().unwrap().row;
     let mut failing = Vec::new();
     for row in rows.map(|month| month.row) {
-        if row.side != stepped(&before, row.since_node) {
+        if row.moon.side != stepped(&before, row.moon.since_node) {
             failing.push(row.lunation);
         }
         before = row;

@@ -1,8 +1,9 @@
 //! Years, months and days of the other calendars, by formulas over one struct of
-//! numbers. It is handed on by value and everything here is inlined, so that each
-//! calendar's functions divide by constants.
+//! numbers. It is handed on by value and everything here is inlined, if need be by
+//! order, so that each calendar's functions divide by constants.
 
-use super::rows::number;
+use super::cuts::{self, SunYear};
+use super::rows::{number, SIXTY};
 
 #[derive(Clone, Copy)]
 pub struct Calendar {
@@ -146,20 +147,34 @@ impl Calendar {
         }
     }
 
+    /// The distance since the last node some way on, which is too short to pass two.
+    #[inline]
+    fn since_node(self, before: u64, way: u64) -> u64 {
+        let moved = before + way;
+        match self.half_round {
+            Some(round) if moved >= round => moved - round,
+            _ => moved,
+        }
+    }
+
     /// The monthly additions.
     #[inline]
     fn next(self, moon: NewMoon) -> NewMoon {
         let length = self.length(moon.remainder);
-        let moved = moon.since_node + self.month;
         NewMoon {
             lunation: moon.lunation + 1,
             day: moon.day + length,
             remainder: moon.remainder + self.month - length * self.day_divisor,
-            since_node: match self.half_round {
-                Some(round) if moved >= round => moved - round,
-                _ => moved,
-            },
+            since_node: self.since_node(moon.since_node, self.month),
         }
+    }
+
+    /// Degrees and remainder of a distance since a node, in 32 bits, in which the
+    /// division is shorter.
+    #[inline]
+    fn degrees(self, since_node: u64) -> [u64; 2] {
+        let (parts, full) = (since_node as u32, self.day_divisor as u32);
+        [parts / full, parts % full].map(u64::from)
     }
 
     #[inline]
@@ -176,14 +191,12 @@ impl Calendar {
             self.length(moon.remainder),
         ]);
         if let [degrees, remainder] = &mut row[BEHIND..] {
-            // In 32 bits, in which the division is shorter.
-            let (parts, full) = (moon.since_node as u32, self.day_divisor as u32);
-            (*degrees, *remainder) = (u64::from(parts / full), u64::from(parts % full));
+            [*degrees, *remainder] = self.degrees(moon.since_node);
         }
         row
     }
 
-    #[inline]
+    #[inline(always)]
     fn row_at<const ROW: usize>(self, past: u64, place: u64, lunation: u64) -> [u64; ROW] {
         let moon = self.new_moon(lunation);
         let next_day = moon.day + self.length(moon.remainder);
@@ -201,15 +214,54 @@ impl Calendar {
     }
 
     #[inline]
-    pub fn row<const ROW: usize>(self, year: u64, place: u64) -> Result<[u64; ROW], u64> {
+    fn lunation(self, year: u64, place: u64) -> Result<u64, u64> {
         let past = self.past(year)?;
         let before = self.months_before(past);
         // The thirteenth month is seldom asked for, and only then looked for.
         if place < 12 || place == 12 && self.months_of(past, before) == 13 {
-            Ok(self.row_at(past, place, before + place))
+            Ok(before + place)
         } else {
             Err(2)
         }
+    }
+
+    #[inline]
+    pub fn row<const ROW: usize>(self, year: u64, place: u64) -> Result<[u64; ROW], u64> {
+        let lunation = self.lunation(year, place);
+        lunation.map(|lunation| self.row_at(year - self.first_year, place, lunation))
+    }
+
+    #[inline]
+    pub fn day(self, year: u64, place: u64, day: u64) -> Result<[u64; 2], u64> {
+        let parts = self.lunation(year, place)? * self.month;
+        let index = day.wrapping_sub(1);
+        if index >= self.length(parts % self.day_divisor) {
+            return Err(3);
+        }
+        let number = parts / self.day_divisor + index;
+        Ok([number, number % SIXTY + 1])
+    }
+
+    /// Degrees since the last node, remainder and half a part of the new moon, then of
+    /// the full moon.
+    #[inline]
+    pub fn nodes(self, year: u64, place: u64) -> Result<[u64; 6], u64> {
+        let new = self.new_moon(self.lunation(year, place)?).since_node;
+        let [degrees, remainder] = self.degrees(new);
+        // Half a month on, and half a part where a month's parts are odd.
+        let full = self.since_node(new, self.month / 2);
+        let [full_degrees, full_remainder] = self.degrees(full);
+        let half = self.month % 2;
+        Ok([degrees, remainder, 0, full_degrees, full_remainder, half])
+    }
+
+    #[inline]
+    pub fn cut_point(self, year: u64, cut: u64, index: u64) -> Result<[u64; 3], u64> {
+        let parts = SunYear {
+            parts: self.year,
+            degree_divisor: self.degree_divisor,
+        };
+        cuts::point(self.past(year)?, cut, index, parts)
     }
 
     /// The years before that of a month, the last whose solstice falls on a day before
@@ -220,8 +272,8 @@ impl Calendar {
     }
 
     /// The row of a month of the calendar.
-    #[inline]
-    fn row_of<const ROW: usize>(self, lunation: u64) -> [u64; ROW] {
+    #[inline(always)]
+    pub fn row_of<const ROW: usize>(self, lunation: u64) -> [u64; ROW] {
         let past = self.past_of(lunation);
         self.row_at(past, lunation - self.months_before(past), lunation)
     }
@@ -236,31 +288,6 @@ impl Calendar {
         let place = lunation - self.months_before(past);
         let first_day = self.first_day(lunation);
         Ok([past + self.first_year, place, day - first_day + 1])
-    }
-
-    #[inline]
-    fn is_genuine<const ROW: usize>(self, row: &[u64; ROW]) -> bool {
-        if row[0] >= self.months {
-            return false;
-        }
-        // All numbers at once, without a jump for each; as arrays the two would be
-        // compared by a call of the C library.
-        let numbers = row.iter().zip(self.row_of::<ROW>(row[0]));
-        numbers.fold(0, |differing, (a, b)| differing | (a ^ b)) == 0
-    }
-
-    #[inline]
-    pub fn carried<const ROW: usize>(
-        self,
-        row: &[u64; ROW],
-        count: i64,
-    ) -> Result<[u64; ROW], u64> {
-        if !self.is_genuine(row) {
-            return Err(4);
-        }
-        let next = row[0].checked_add_signed(count);
-        let next = next.filter(|next| *next < self.months);
-        next.map(|next| self.row_of(next)).ok_or(5)
     }
 
     /// The rows of a year, by additions, and zeros past them.

@@ -5,12 +5,15 @@
 //! number returned, same values written, zeros where they refuse. They are
 //! never inlined, since the library's cannot be; what they are made of is.
 //! Those of heads, rows and dates are made for each way to the months before a
-//! year. The functions of the other calendars stand in modules of their own.
+//! year. Those of the other calendars are the functions of a trait, [`Boundary`], but for
+//! the Zhengguang's nodes.
 
 mod anomaly;
+mod boundary;
 mod calendar;
 mod chapter;
-pub mod linde;
+mod cuts;
+mod linde;
 mod mending;
 mod moon;
 mod names;
@@ -20,14 +23,18 @@ mod reigns;
 mod rows;
 mod stages;
 mod volumes;
-pub mod zhengguang;
+mod walks;
+mod zhengguang;
 
+pub use boundary::Boundary;
 pub use calendar::Calendar;
 pub use chapter::{Division, MonthsBefore, Table};
+pub use linde::Linde;
 pub use mending::MOST_BLOCKS;
 pub use names::LIST;
 pub use rows::{Row, ROUND_DAYS, ROUND_MONTHS, ROUND_YEARS, ROW, SIXTY};
 pub use volumes::BLOCK;
+pub use zhengguang::Zhengguang;
 
 /// Writes the answer, or zeros, and returns the number.
 #[inline]
@@ -45,6 +52,17 @@ fn written<const LENGTH: usize>(
             number
         }
     }
+}
+
+/// The same of a walk's last row and its totals.
+#[inline]
+fn written_walk<const ROW: usize>(
+    end: Result<([u64; ROW], [u64; 3]), u64>,
+    out: &mut [u64; ROW],
+    totals: &mut [u64; 3],
+) -> u64 {
+    written(end.map(|(_, totals)| totals), totals);
+    written(end.map(|(row, _)| row), out)
 }
 
 #[inline(never)]
@@ -76,7 +94,8 @@ pub extern "C" fn date_of_day<B: MonthsBefore>(number: u64, out: &mut [u64; 3]) 
 
 #[inline(never)]
 pub extern "C" fn carry<B: MonthsBefore>(row: &Row, count: i64, out: &mut Row) -> u64 {
-    written(rows::carried::<B>(row, count), out)
+    let carried = walks::carried(row, count, ROUND_MONTHS, rows::row_of::<B>);
+    written(carried, out)
 }
 
 #[inline(never)]
@@ -109,7 +128,21 @@ pub extern "C" fn corrections_from_rates(year: u64, place: u64, out: &mut [u64; 
 
 #[inline(never)]
 pub extern "C" fn cut_point(year: u64, cut: u64, index: u64, out: &mut [u64; 3]) -> u64 {
-    written(rows::cut_point(year, cut, index), out)
+    let past = rows::past(year);
+    let point = past.and_then(|past| cuts::point(past, cut, index, rows::SUN_YEAR));
+    written(point, out)
+}
+
+#[inline(never)]
+pub extern "C" fn cut_point_by_division(
+    year: u64,
+    cut: u64,
+    index: u64,
+    out: &mut [u64; 3],
+) -> u64 {
+    let past = rows::past(year);
+    let point = past.and_then(|past| cuts::point_by_division(past, cut, index, rows::SUN_YEAR));
+    written(point, out)
 }
 
 #[inline(never)]
@@ -142,8 +175,6 @@ pub extern "C" fn ganzhi_names(out: &mut [u8; LIST]) -> u64 {
     0
 }
 
-/// The first row is tested, the month alone is moved, and one row is worked out
-/// at the end.
 #[inline(never)]
 pub fn walk<B: MonthsBefore>(
     row: &Row,
@@ -151,20 +182,8 @@ pub fn walk<B: MonthsBefore>(
     out: &mut Row,
     totals: &mut [u64; 3],
 ) -> u64 {
-    if !rows::is_genuine::<B>(row) {
-        (*out, *totals) = ([0; ROW], [0; 3]);
-        return 4;
-    }
-    let (mut month, mut answered) = (row[0], 0);
-    for &count in counts {
-        if let Some(next) = rows::moved(month, count) {
-            month = next;
-            answered += 1;
-        }
-    }
-    *out = rows::row_of::<B>(month);
-    *totals = [u64::from(month < row[0]), month.abs_diff(row[0]), answered];
-    0
+    let end = walks::walked(row, counts, ROUND_MONTHS, rows::row_of::<B>);
+    written_walk(end, out, totals)
 }
 
 #[inline(never)]

@@ -2,12 +2,17 @@
 
 use super::anomaly::Anomaly;
 use super::chapter::{self, MonthsBefore};
+use super::cuts::SunYear;
 use super::moon::new_moon;
 use super::node;
 
 pub const N: u64 = 208_530;
 pub const D: u64 = 16_860;
 pub const P: u64 = 6_158_017;
+pub const SUN_YEAR: SunYear = SunYear {
+    parts: P,
+    degree_divisor: D,
+};
 
 const LONG_FROM: u64 = 97_883;
 
@@ -217,32 +222,6 @@ fn past_of(lunation: u64) -> u64 {
 }
 
 #[inline]
-pub fn is_genuine<B: MonthsBefore>(row: &Row) -> bool {
-    if row[0] >= ROUND_MONTHS {
-        return false;
-    }
-    // All fields at once, without a jump for each; as arrays the two would be
-    // compared by a call of the C library.
-    let fields = row.iter().zip(row_of::<B>(row[0]));
-    fields.fold(0, |differing, (a, b)| differing | (a ^ b)) == 0
-}
-
-/// The month of the round so many months on.
-#[inline]
-pub fn moved(lunation: u64, count: i64) -> Option<u64> {
-    let next = lunation.checked_add_signed(count);
-    next.filter(|next| *next < ROUND_MONTHS)
-}
-
-#[inline]
-pub fn carried<B: MonthsBefore>(row: &Row, count: i64) -> Result<Row, u64> {
-    if !is_genuine::<B>(row) {
-        return Err(4);
-    }
-    moved(row[0], count).map(row_of::<B>).ok_or(5)
-}
-
-#[inline]
 pub fn day<B: MonthsBefore>(year: u64, place: u64, day: u64) -> Result<[u64; 2], u64> {
     let lunation = lunation::<B>(year, place)?;
     let index = day.wrapping_sub(1);
@@ -274,27 +253,6 @@ pub fn phases(lunation: u64) -> [u64; 12] {
         phase[2] = quarters % 4;
     }
     all
-}
-
-#[inline]
-pub fn cut_point(number: u64, cut: u64, index: u64) -> Result<[u64; 3], u64> {
-    let past = past(number)?;
-    if index >= cut {
-        return Err(8);
-    }
-    // Each cut by its own constant: a division by a variable takes far longer.
-    match cut {
-        24 => Ok(point::<24>(past, index)),
-        60 => Ok(point::<60>(past, index)),
-        72 => Ok(point::<72>(past, index)),
-        _ => Err(8),
-    }
-}
-
-#[inline]
-fn point<const CUT: u64>(past: u64, index: u64) -> [u64; 3] {
-    let parts = (CUT * past + index) * P;
-    [parts / (CUT * D), parts / CUT % D, parts % CUT]
 }
 
 #[inline]

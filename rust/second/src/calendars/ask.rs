@@ -1,10 +1,11 @@
 //! The questions about a calendar with their refusals, answered by the walk.
 
 use super::checkpoints::Checkpoints;
-use super::counts::Count;
 use super::fields::{self, Numbers};
 use super::walker::{Month, Year};
 use crate::ask::Refusal;
+use crate::counts::Count;
+use crate::cuts;
 use crate::sixty;
 
 pub fn year(walked: &Checkpoints, number: u64) -> Result<Year, Refusal> {
@@ -47,12 +48,8 @@ pub fn cut_point(
     points: u64,
     index: u64,
 ) -> Result<Count, Refusal> {
-    let year = year(walked, number)?;
-    let mut cuts = walked.calendar.cuts.into_iter();
-    let cut = cuts.find(|cut| cut.points() == points);
-    let cut = cut.filter(|cut| index < cut.points()).ok_or(Refusal::Cut)?;
-    let point = year.points(cut).nth(index as usize);
-    Ok(point.expect("a point below the cut"))
+    let solstice = year(walked, number)?.solstice;
+    cuts::point(walked.calendar.cuts, solstice, points, index).ok_or(Refusal::Cut)
 }
 
 /// The row of a month of the calendar.

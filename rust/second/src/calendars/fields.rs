@@ -1,8 +1,9 @@
 //! A year's and a month's answers as plain numbers, in the order in which they are
 //! written. How many they are depends on what the calendar has.
 
-use super::counts::Count;
 use super::walker::{Month, Row, Year};
+use crate::fields::first_eight;
+pub use crate::fields::point;
 
 /// As they are written out and handed in.
 pub type Numbers = Vec<u64>;
@@ -27,17 +28,8 @@ pub fn head(year: &Year) -> Numbers {
 /// The eight numbers of every row, and the distance since the last node where there
 /// are nodes.
 pub fn row(row: &Row) -> Numbers {
-    let mut numbers = vec![
-        row.lunation,
-        row.year,
-        row.place,
-        row.number,
-        u64::from(row.leap),
-        row.day,
-        row.remainder,
-        row.length,
-    ];
-    if let Some(since_node) = row.since_node {
+    let mut numbers = first_eight(row).to_vec();
+    if let Some(since_node) = row.moon {
         numbers.extend([since_node.whole, since_node.remainder]);
     }
     numbers
@@ -45,7 +37,7 @@ pub fn row(row: &Row) -> Numbers {
 
 /// Degrees, remainder and half of the new moon, then of the full moon.
 pub fn nodes(month: &Month) -> Option<[u64; 6]> {
-    let (new, full) = (month.row.since_node?, month.full_moon?);
+    let (new, full) = (month.row.moon?, month.full_moon?);
     Some([
         new.whole,
         new.remainder,
@@ -54,10 +46,6 @@ pub fn nodes(month: &Month) -> Option<[u64; 6]> {
         full.remainder,
         full.rest,
     ])
-}
-
-pub fn point(point: Count) -> [u64; 3] {
-    [point.whole, point.remainder, point.rest]
 }
 
 /// The rows of a year one after the other, with zeros past its months.

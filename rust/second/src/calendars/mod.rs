@@ -1,13 +1,12 @@
 //! Two further calendars, the Zhengguang and the Linde, walked as the Xinghe is.
 //!
 //! Both are one walk over a calendar's own numbers ([`numbers`]). The walk of the
-//! Xinghe stays apart: eras, phases, corrections and planets hang on it, and its spans
-//! are counted over its own divisors.
+//! Xinghe stays apart: eras, phases, corrections and planets hang on it, and its months
+//! and nodes are counted in spans over its own divisors. Cuts are one ([`crate::cuts`]).
 
 pub mod ask;
 pub mod cases;
 pub mod checkpoints;
-pub mod counts;
 pub mod fields;
 pub mod nodes;
 pub mod numbers;

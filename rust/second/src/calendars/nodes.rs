@@ -1,6 +1,6 @@
 //! The moon's distance since the last node.
 
-use super::counts::{Board, Count};
+use crate::counts::{Board, Count};
 
 /// What a calendar has of the nodes.
 #[derive(Clone, Copy, Debug)]

@@ -1,7 +1,8 @@
 //! The numbers of each calendar, and the additions that they give.
 
-use super::counts::{Board, Count};
 use super::nodes::Nodes;
+use crate::counts::{Board, Count};
+use crate::cuts::{Cut, SunYear};
 
 /// A calendar, as far as it differs from the other.
 #[derive(Debug)]
@@ -35,43 +36,6 @@ impl Chapter {
     const fn new(years: u64, leaps: u64, months: u64) -> Self {
         assert!(12 * years + leaps == months);
         Self { years, leaps }
-    }
-}
-
-/// A year: its parts, of which a day has as many as the degree divisor says.
-#[derive(Clone, Copy)]
-struct SunYear {
-    degree_divisor: u64,
-    parts: u64,
-}
-
-/// A cut of the year in equal parts, with the addition from point to point.
-#[derive(Clone, Copy, Debug)]
-pub struct Cut {
-    /// Over the degree divisor, and a rest over the number of points.
-    board: Board,
-    step: Count,
-}
-
-impl Cut {
-    /// Checked while compiling: the steps come to a whole year.
-    const fn new(year: SunYear, points: u64, step: Count) -> Self {
-        let board = Board {
-            parts: year.degree_divisor,
-            rests: points,
-        };
-        Self {
-            board,
-            step: board.checked(step, year.parts),
-        }
-    }
-
-    pub fn points(self) -> u64 {
-        self.board.rests
-    }
-
-    pub fn next(self, point: Count) -> Count {
-        self.board.plus(point, self.step)
     }
 }
 

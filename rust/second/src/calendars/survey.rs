@@ -5,25 +5,8 @@ use super::fields;
 use super::numbers::{Calendar, LINDE, ZHENGGUANG};
 use super::walker::{Month, Walker, Year};
 use crate::digest::Digest;
+use crate::month_counts::MonthCounts;
 use crate::sixty;
-
-#[derive(Default)]
-struct Counts {
-    months: u64,
-    long: u64,
-    /// Years by leap place; those without a leap month stand at 0.
-    leaps: [u64; 13],
-}
-
-impl Counts {
-    fn count_year(&mut self, year: &Year) {
-        self.leaps[year.leap_place as usize] += 1;
-        for month in &year.months {
-            self.months += 1;
-            self.long += u64::from(month.row.length == 30);
-        }
-    }
-}
 
 /// Each line is walked when it is asked for.
 pub fn lines() -> impl Iterator<Item = String> {
@@ -31,27 +14,21 @@ pub fn lines() -> impl Iterator<Item = String> {
 }
 
 fn line(calendar: &'static Calendar) -> String {
-    let mut counts = Counts::default();
+    let mut counts = MonthCounts::default();
     let mut digest = Digest::default();
     for year in Walker::from_origin(calendar) {
-        counts.count_year(&year);
+        let lengths = year.months.iter().map(|month| month.row.length);
+        counts.count_year(year.leap_place, lengths);
         feed_year(&mut digest, calendar, &year);
     }
-    let leaps = counts.leaps[1..].iter().map(u64::to_string);
-    format!(
-        "{} months {} long {} leaps {} digest {}\n",
-        calendar.word,
-        counts.months,
-        counts.long,
-        leaps.collect::<Vec<_>>().join(" "),
-        digest.value()
-    )
+    let (word, counts) = (calendar.word, counts.text());
+    format!("{word} {counts} digest {}\n", digest.value())
 }
 
 fn feed_year(digest: &mut Digest, calendar: &Calendar, year: &Year) {
     digest.feed_all(&fields::head(year));
     for cut in calendar.cuts {
-        for point in year.points(cut) {
+        for point in cut.walk(year.solstice) {
             digest.feed_all(&fields::point(point));
         }
     }

@@ -2,27 +2,15 @@
 
 use std::ops::Range;
 
-use super::counts::Count;
 use super::nodes::NodeWalk;
-use super::numbers::{Calendar, Cut};
+use super::numbers::Calendar;
+use crate::counts::Count;
 use crate::sixty;
 use crate::spans::carried;
-use crate::walker::{leap_place, Name};
+use crate::walker::{self, leap_place, Name};
 
-#[derive(Clone, Copy, Debug, PartialEq, Eq)]
-pub struct Row {
-    /// Month of the calendar, from 0.
-    pub lunation: u64,
-    pub year: u64,
-    pub place: u64,
-    pub number: u64,
-    pub leap: bool,
-    pub day: u64,
-    pub remainder: u64,
-    pub length: u64,
-    /// The new moon's distance, where the calendar has nodes.
-    pub since_node: Option<Count>,
-}
+/// With the new moon's distance since the last node, where the calendar has nodes.
+pub type Row = walker::Row<Option<Count>>;
 
 /// Everything that is answered about one month.
 #[derive(Clone, Copy, Debug, PartialEq, Eq)]
@@ -46,14 +34,6 @@ pub struct Year {
     pub leap_place: u64,
     pub solstice: Count,
     pub months: Vec<Month>,
-}
-
-impl Year {
-    /// The points of a cut of this year, walked from the solstice.
-    pub fn points(&self, cut: Cut) -> impl Iterator<Item = Count> {
-        std::iter::successors(Some(self.solstice), move |point| Some(cut.next(*point)))
-            .take(cut.points() as usize)
-    }
 }
 
 /// What moves from month to month.
@@ -121,7 +101,7 @@ impl MoonWalk {
             day: self.new_moon.whole,
             remainder: self.new_moon.remainder,
             length: self.length(),
-            since_node: self.node.map(NodeWalk::new_moon),
+            moon: self.node.map(NodeWalk::new_moon),
         }
     }
 }

@@ -1,6 +1,6 @@
 //! The whole round, every month of it as the walk yields it.
 
-use second::instants::Cut;
+use second::instants::ASKED_CUTS;
 use second::numbers::ERA_YEARS;
 use second::{sixty, Month, Walker, Year};
 use xinghe::{Row, ROW};
@@ -59,10 +59,10 @@ fn compare_year(tally: &mut Tally, year: &Year) {
 }
 
 fn compare_cuts(tally: &mut Tally, year: &Year) {
-    for cut in Cut::ASKED {
-        for (index, point) in year.points(cut).enumerate() {
-            let answered = xinghe::cut_point(year.number, cut.points, index as u64);
-            tally.same(answered, Ok(second::fields::point(&point)));
+    for cut in ASKED_CUTS {
+        for (index, point) in (0..).zip(cut.walk(year.solstice)) {
+            let answered = xinghe::cut_point(year.number, cut.points(), index);
+            tally.same(answered, Ok(second::fields::point(point)));
         }
     }
 }

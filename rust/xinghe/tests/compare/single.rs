@@ -1,7 +1,7 @@
 //! Single questions, at random and at the edges of what may be asked.
 
 use second::ask;
-use second::instants::Cut;
+use second::instants::ASKED_CUTS;
 use second::{sixty, Month, Year};
 
 use crate::expected::{self, LAST_DAY, LAST_YEAR};
@@ -38,7 +38,7 @@ fn questions_and_refusals() {
         tally.same(answered, number.map(|(number, sixty)| [number, sixty]));
         let (cut, index) = (random.pick(&CUTS), random.below(74));
         let point = expected::number(ask::cut_point(year, cut, index));
-        let point = point.map(|point| second::fields::point(&point));
+        let point = point.map(second::fields::point);
         tally.same(xinghe::cut_point(year, cut, index), point);
     }
     tally.end(21_000);
@@ -98,10 +98,11 @@ fn compare_days(tally: &mut Tally, year: u64, place: u64, month: Option<&Month>)
 
 fn compare_points(tally: &mut Tally, year: &Year) {
     for cut in CUTS {
-        let asked = Cut::ASKED.into_iter().find(|asked| asked.points == cut);
-        let points: Vec<_> = asked.map_or(Vec::new(), |cut| year.points(cut).collect());
+        let asked = ASKED_CUTS.into_iter().filter(|asked| asked.points() == cut);
+        let points = asked.flat_map(|cut| cut.walk(year.solstice));
+        let points: Vec<_> = points.map(second::fields::point).collect();
         for index in (0..75).chain(EDGES) {
-            let point = points.get(index as usize).map(second::fields::point);
+            let point = points.get(index as usize).copied();
             let answered = xinghe::cut_point(year.number, cut, index);
             tally.same(answered, point.ok_or(8));
         }

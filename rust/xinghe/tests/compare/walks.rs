@@ -43,12 +43,20 @@ fn random_lists() {
     tally.end(6_000);
 }
 
-/// Lists that are empty, refused throughout, or go to and fro.
 #[test]
 fn edge_lists() {
     let mut random = Random::new(9);
     let mut tally = Tally::new("walks at the edges");
-    let length = LAST_MONTH as i64;
+    let rows = some_rows(&mut random, 40);
+    compare_edge_lists(&rows, LAST_MONTH, |row, counts| {
+        tally.same(xinghe::walk(row, counts), Ok(walked(row, counts)));
+    });
+    tally.end(300);
+}
+
+/// From each row by lists that are empty, refused throughout, or go to and fro.
+pub fn compare_edge_lists<R>(rows: &[R], last_month: u64, mut compare: impl FnMut(&R, &[i64])) {
+    let length = last_month as i64;
     let lists: [&[i64]; 7] = [
         &[],
         &[0],
@@ -58,13 +66,11 @@ fn edge_lists() {
         &[i64::MAX, 1, i64::MIN, -1, 0, 1, 1, -2],
         &[1; 100],
     ];
-    for row in some_rows(&mut random, 40) {
+    for row in rows {
         for counts in lists {
-            let answered = xinghe::walk(&row, counts);
-            tally.same(answered, Ok(walked(&row, counts)));
+            compare(row, counts);
         }
     }
-    tally.end(300);
 }
 
 /// A walk is the carries one after another.

@@ -1,5 +1,4 @@
 use mathlib.Core.Path.{refl}
-use Rattle.units.proofs.Sound.{sound}
 use Rattle.calendar.specs.Heads.{headOf}
 use borrow.Author.Needs.{needs}
 use Rattle.calendar.proofs.heads.head_of.Statement.{statement}
@@ -11,13 +10,8 @@ months-before-requires c κs = search needs
 leap-remainder-requires : tie.Need-leap-remainder-requires
 leap-remainder-requires c κs = search needs
 
-constants-requires : tie.Need-constants-requires
-constants-requires c κs = search needs
-
 year-months-requires : tie.Need-year-months-requires
-year-months-requires c κs =
-    let b = c .before .before in
-    rw (c .constants .ensures) (sound, b .before .pre, b .months-before .ensures)
+year-months-requires c κs = search needs
 
 winter-solstice-requires : tie.Need-winter-solstice-requires
 winter-solstice-requires c κs = search needs
@@ -26,12 +20,11 @@ returns : tie.Need-returns
 unfolding headOf
 returns c =
     let m = c .before in
-    let r = m .before .before in
+    let r = m .before in
     rw (
       r .before .months-before .ensures,
       r .leap-remainder .ensures,
       m .year-months .ensures,
-      m .before .constants .ensures,
       c .winter-solstice .ensures,
     )
     refl
@@ -42,7 +35,6 @@ head-of-spec =
     (tie.spec
     months-before-requires
     leap-remainder-requires
-    constants-requires
     year-months-requires
     winter-solstice-requires
     returns)

@@ -2,12 +2,14 @@ use native.Mathlib.Omega.{arith}
 use mathlib.Core.Path.{_≡_, refl, ap}
 use Prim.Native.Nat.{_*_}
 use Rattle.reckoning.specs.Means.{newMoon, newMoonRest}
+use Rattle.lunisolar.specs.Dates.{monthDays}
+use Rattle.lunisolar.proofs.Days.{length-is}
 use Rattle.mean_calendar.specs.Parts.{overDay}
 use Rattle.mean_calendar.specs.Months.{monthOf}
 use Rattle.mean_calendar.specs.declared.parts.DayShare.{DayShare}
 use Rattle.units.specs.Xinghe.{P, xinghe}
 use Rattle.units.proofs.Sound.{sound}
-use Rattle.moon.specs.NewMoons.{newMoonOf}
+use Rattle.moon.specs.NewMoons.{newMoonOf, lengthOf}
 use Rattle.anomaly.proofs.Steps.{into-is-anomaly}
 use Rattle.calendar.specs.Rows.{rowOf}
 use Rattle.calendar.specs.declared.elements.Elements.{Elements}
@@ -20,23 +22,31 @@ share : (a : tie.Start) → (let x = a .args in _≡_ {A = DayShare} (record { w
 unfolding newMoonOf newMoon newMoonRest
 share a = rw (a .pre .2) refl
 
-is-month : (a : tie.After-month-by) → a .month-by .result ≡ monthOf xinghe (a .before .before .before .before .args .lunation)
+-- and its length
+length : (a : tie.After-length-of) → a .length-of .result ≡ monthDays xinghe (a .before .before .before .args .lunation)
+unfolding newMoonOf lengthOf
+length a = let s = a .before .before .before in rw (a .length-of .ensures, s .pre .2) (length-is xinghe sound (s .args .lunation))
+
+is-month : (a : tie.After-month-by) → a .month-by .result ≡ monthOf xinghe (a .before .before .before .before .before .args .lunation)
 is-month a = rw (a .before .constants .ensures) at (a .month-by .ensures)
+
+length-of-requires : tie.Need-length-of-requires
+length-of-requires c κs = search needs
 
 constants-requires : tie.Need-constants-requires
 constants-requires c κs = search needs
 
 month-by-requires : tie.Need-month-by-requires
-month-by-requires c κs = let a = c .before .before .before in rw (c .constants .ensures) (sound, a .pre .1, share a)
+month-by-requires c κs = let a = c .before .before .before .before in rw (c .constants .ensures) (a .pre .1, share a, length (c .before))
 
 distance-requires : tie.Need-distance-requires
 distance-requires c κs = search needs
 
 side-requires : tie.Need-side-requires
-side-requires c κs = let a = c .before .before .before .before .before .before in (a .pre .0, ap (λ (x : Elements). x .passage) (a .pre .2))
+side-requires c κs = let a = c .before .before .before .before .before .before .before in (a .pre .0, ap (λ (x : Elements). x .passage) (a .pre .2))
 
 anomaly-in-requires : tie.Need-anomaly-in-requires
-anomaly-in-requires c κs = omega (arith, ap (λ (x : Elements). x .into) (c .before .before .before .before .before .before .before .pre .2))
+anomaly-in-requires c κs = omega (arith, ap (λ (x : Elements). x .into) (c .before .before .before .before .before .before .before .before .pre .2))
 
 returns : tie.Need-returns
 unfolding rowOf monthOf newMoonOf
@@ -45,13 +55,14 @@ returns c =
     let s = i .before in
     let d = s .before .before in
     let b = d .before in
-    let a = b .before .before .before .before in
+    let a = b .before .before .before .before .before in
     rw (i .anomaly-in .ensures, s .side .ensures, d .distance .ensures, is-month b, a .pre .2, into-is-anomaly (a .args .lunation)) refl
 
 pub row-named-spec : {M : Type 1} → statement M
 row-named-spec =
     tie.close
     (tie.spec
+    length-of-requires
     constants-requires
     month-by-requires
     distance-requires

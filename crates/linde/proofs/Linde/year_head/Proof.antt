@@ -5,11 +5,14 @@ use Rattle.linde.proofs.Linde.year_head.Tie as tie
 constants-requires : tie.Need-constants-requires
 constants-requires c κs = search needs
 
-year-head-requires : tie.Need-year-head-requires
-year-head-requires c κs = search needs
+lunation-at-requires : tie.Need-lunation-at-requires
+lunation-at-requires c κs = search needs
+
+head-for-requires : tie.Need-head-for-requires
+head-for-requires c κs = (c .before .constants .ensures .1, c .lunation-at .ensures)
 
 returns : tie.Need-returns
-returns c = rw (c .before .constants .ensures .0) at (c .year-head .ensures)
+returns c = rw (c .before .before .constants .ensures .0) at (c .head-for .ensures)
 
 pub year-head-spec : {M : Type 1} → statement M
-year-head-spec = tie.close (tie.spec constants-requires year-head-requires returns)
+year-head-spec = tie.close (tie.spec constants-requires lunation-at-requires head-for-requires returns)

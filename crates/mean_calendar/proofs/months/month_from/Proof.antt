@@ -65,7 +65,7 @@ month-by-requires : tie.Need-month-by-requires
 month-by-requires c κs =
     let n = c .before .before .before in
     let a = n .before in
-    (a .pre .0, c .name-from .ensures ∙ ap (nameOf (a .args .k)) (month a), n .new-moon .ensures)
+    (c .name-from .ensures ∙ ap (nameOf (a .args .k)) (month a), n .new-moon .ensures, c .before .before .month-length .ensures)
 
 returns : tie.Need-returns
 returns c = c .month-by .ensures

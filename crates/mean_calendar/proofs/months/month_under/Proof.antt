@@ -36,18 +36,24 @@ name-under-requires c κs =
 add-lunation : tie.Need-add-lunation
 add-lunation c = let a = c .before .before .before in omega (arith, low a, lunations-bound (a .args .k) (a .pre .0))
 
+month-length-requires : tie.Need-month-length-requires
+month-length-requires c κs =
+    let a = c .before .before .before in
+    (a .pre .0, omega (arith, low a, lunations-bound (a .args .k) (a .pre .0)))
+
 new-moon-requires : tie.Need-new-moon-requires
-new-moon-requires c κs = let a = c .before .before .before in (a .pre .0, low a)
+new-moon-requires c κs = let a = c .before .before .before .before in (a .pre .0, low a)
 
 month-by-requires : tie.Need-month-by-requires
 month-by-requires c κs =
-    let n = c .before .before in
+    let l = c .before in
+    let n = l .before .before in
     let a = n .before .before in
-    (a .pre .0, n .name-under .ensures ∙ ap (nameOf (a .args .k)) (sym (standing a .month)), c .new-moon .ensures)
+    (n .name-under .ensures ∙ ap (nameOf (a .args .k)) (sym (standing a .month)), c .new-moon .ensures, l .month-length .ensures)
 
 returns : tie.Need-returns
 returns c =
-    let a = c .before .before .before .before .before in
+    let a = c .before .before .before .before .before .before in
     ap MeanMonthAnswer.Answered (c .month-by .ensures) ∙ head-month (a .args .k) (a .args .year) (a .args .head) (a .pre .1) (a .args .place) (a .pre .2)
 
 pub month-under-spec : {M : Type 1} → statement M
@@ -57,6 +63,7 @@ month-under-spec =
     sub-name-under
     name-under-requires
     add-lunation
+    month-length-requires
     new-moon-requires
     month-by-requires
     returns)

@@ -1,64 +1,35 @@
 use native.Mathlib.Omega.{arith}
 use mathlib.Core.Path.{_≡_, refl, sym, ap, _∙_}
-use Prim.Native.Nat.{ℕ, _-_, _≤_, _<_}
-use native.Mathlib.Nat.{zero-add}
-use lib.ListN.{getD, set}
+use Prim.Native.Nat.{_-_, _≤_}
+use lib.ListN.{set, replicate}
 use Rattle.reckoning.specs.Search.{listFrom}
-use Rattle.reckoning.proofs.Searches.{list-at}
 use Rattle.reckoning.proofs.Lists.{filledTo, none-filled, all-filled, one-more}
-use Rattle.mean_calendar.specs.Months.{monthRow}
-use Rattle.mean_calendar.specs.Answers.{zeroMonth}
-use Rattle.mean_year.specs.Years.{places, monthAt, meanYear}
-use Rattle.mean_year.specs.declared.MeanYear.{MeanYear}
-use Rattle.zhengguang.specs.Zhengguang.{zhengguang}
-use Rattle.zhengguang.specs.Rows.{rowBy}
+use Rattle.mean_year.specs.Years.{places}
 use Rattle.zhengguang.specs.Answers.{zeroRow}
 use Rattle.zhengguang.specs.Years.{rowAt}
-use Rattle.zhengguang.proofs.Whose.{place-low, row-of-values}
 use Rattle.zhengguang.proofs.years.year_by_value.Statement.{statement}
 use Rattle.zhengguang.proofs.years.year_by_value.Tie as tie
 
 abbrev Inv-loop : tie.InvT-loop
-Inv-loop year head months rows₀ i₀ rows i = (i ≤ places) × (rows ≡ filledTo (rowAt year) zeroRow places i)
+Inv-loop year mean head rows₀ i₀ rows i = (i ≤ places) × (rows ≡ filledTo (rowAt year) (replicate places zeroRow) i)
 
 abbrev μ-loop : tie.MeasureT-loop
-μ-loop year head months rows₀ i₀ rows i = places - i
+μ-loop year mean head rows₀ i₀ rows i = places - i
 
--- any calendar's year, and what stands at a place of it
-any-year : (a : tie.After-year-by-value Inv-loop μ-loop) → a .year-by-value .result ≡ meanYear zhengguang (a .before .before .args .year)
-any-year a = rw (a .before .constants .ensures .0) at (a .year-by-value .ensures)
-
-month : (a : tie.After-year-by-value Inv-loop μ-loop) (i : ℕ) → i < places → getD (a .year-by-value .result .months) i zeroMonth ≡ monthAt zhengguang (a .before .before .args .year) i
-month a i h =
-    let f = monthAt zhengguang (a .before .before .args .year) in
-    ap (λ (y : MeanYear). getD (y .months) i zeroMonth) (any-year a) ∙ list-at f zeroMonth places 0 i h ∙ ap f (zero-add i)
-
-constants-requires : tie.Need-constants-requires Inv-loop μ-loop
-constants-requires c κs = tt
-
-year-by-value-requires : tie.Need-year-by-value-requires Inv-loop μ-loop
-year-by-value-requires c κs = c .constants .ensures .1
+mean-head-requires : tie.Need-mean-head-requires Inv-loop μ-loop
+mean-head-requires c κs = tt
 
 head-by-requires : tie.Need-head-by-requires Inv-loop μ-loop
-head-by-requires c κs = ap (λ (y : MeanYear). y .head) (any-year c)
+head-by-requires c κs = c .mean-head .ensures
 
 zero-requires : tie.Need-zero-requires Inv-loop μ-loop
 zero-requires c κs = tt
 
 loop-holds : tie.Need-loop-holds Inv-loop μ-loop
-loop-holds c = (omega arith, rw (c .zero .ensures) (sym (none-filled (rowAt (c .before .before .before .before .before .args .year)) zeroRow places)))
+loop-holds c = (omega arith, rw (c .zero .ensures) (sym (none-filled (rowAt (c .before .before .before .args .year)) (replicate places zeroRow))))
 
-mul-with-node : tie.Need-mul-with-node Inv-loop μ-loop
-mul-with-node c = omega arith
-
-array-copy-out-with-node : tie.Need-array-copy-out-with-node Inv-loop μ-loop
-array-copy-out-with-node c = omega arith
-
-with-node-requires : tie.Need-with-node-requires Inv-loop μ-loop
-with-node-requires c κs =
-    let a = c .before .before .before .before .before .before in
-    let i = c .before .before .loop .i in
-    rw (month a i (omega arith)) (place-low (a .before .before .args .year) i)
+row-at-requires : tie.Need-row-at-requires Inv-loop μ-loop
+row-at-requires c κs = c .before .before .before .before .mean-head .ensures
 
 mul-rows : tie.Need-mul-rows Inv-loop μ-loop
 mul-rows c = omega arith
@@ -74,21 +45,19 @@ loop-less c = omega arith
 
 loop-again : tie.Need-loop-again Inv-loop μ-loop
 loop-again c =
-    let l = c .before .before .before in
-    let a = l .before .before .before .before in
-    let n = a .before .before .args .year in
+    let l = c .before .before in
+    let n = l .before .before .before .before .args .year in
     let i = l .loop .i in
-    let row : c .with-node .result ≡ rowAt n i = c .with-node .ensures ∙ ap rowBy (month a i (omega arith)) ∙ row-of-values (monthRow zhengguang n i) in
-    let stored : set (l .loop .rows) i (c .with-node .result) ≡ set (filledTo (rowAt n) zeroRow places i) i (rowAt n i) = rw (l .loop .inv .1, row) refl in
-    (omega arith, stored ∙ one-more (rowAt n) zeroRow places i (omega arith))
+    let stored : set (l .loop .rows) i (c .row-at .result) ≡ set (filledTo (rowAt n) (replicate places zeroRow) i) i (rowAt n i) = rw (l .loop .inv .1, c .row-at .ensures) refl in
+    (omega arith, stored ∙ one-more (rowAt n) (replicate places zeroRow) i (omega arith))
 
 returns : tie.Need-returns Inv-loop μ-loop
 returns c =
     let l = c .before in
-    let h = l .before .before .before in
-    let n = h .before .before .before .args .year in
+    let h = l .before .before in
+    let n = h .before .before .args .year in
     let e : l .loop .i ≡ places = omega arith in
-    let all : l .loop .rows ≡ listFrom (rowAt n) 0 places = l .loop .inv .1 ∙ ap (filledTo (rowAt n) zeroRow places) e ∙ all-filled (rowAt n) zeroRow places in
+    let all : l .loop .rows ≡ listFrom (rowAt n) 0 places = l .loop .inv .1 ∙ ap (filledTo (rowAt n) (replicate places zeroRow)) e ∙ all-filled (rowAt n) (replicate places zeroRow) places refl in
     rw (all, h .head-by .ensures) refl
 
 pub year-by-value-spec : {M : Type 1} → statement M
@@ -97,14 +66,11 @@ year-by-value-spec =
     (tie.spec
     Inv-loop
     μ-loop
-    constants-requires
-    year-by-value-requires
+    mean-head-requires
     head-by-requires
     zero-requires
     loop-holds
-    mul-with-node
-    array-copy-out-with-node
-    with-node-requires
+    row-at-requires
     mul-rows
     array-set-from-rows
     add-i

@@ -54,7 +54,7 @@ fn compare_year<L: Library>(tally: &mut Tally, year: &Year) {
 
 fn compare_cuts<L: Library>(tally: &mut Tally, year: &Year) {
     for cut in L::walked().calendar.cuts {
-        for (index, point) in (0..).zip(year.points(cut)) {
+        for (index, point) in (0..).zip(cut.walk(year.solstice)) {
             let answered = L::cut(year.number, cut.points(), index);
             tally.same(answered, Ok(fields::point(point)));
         }

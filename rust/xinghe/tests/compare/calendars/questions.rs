@@ -100,7 +100,7 @@ fn compare_points<L: Library>(tally: &mut Tally, year: &Year) {
     for points in CUTS {
         let cuts = L::walked().calendar.cuts.into_iter();
         let asked = cuts.filter(|cut| cut.points() == points);
-        let walked: Vec<_> = asked.flat_map(|cut| year.points(cut)).collect();
+        let walked: Vec<_> = asked.flat_map(|cut| cut.walk(year.solstice)).collect();
         for index in (0..75).chain(EDGES) {
             let point = walked
                 .get(index as usize)

@@ -6,6 +6,7 @@ use super::library::{number, Library, Linde, Zhengguang};
 use super::some::some_rows;
 use crate::random::Random;
 use crate::tally::Tally;
+use crate::walks::compare_edge_lists;
 
 #[track_caller]
 fn compare<L: Library>(tally: &mut Tally, row: &[u64], counts: &[i64]) {
@@ -33,32 +34,20 @@ fn compare_random_lists<L: Library>(tally: &mut Tally) {
     }
 }
 
-/// Lists that are empty, refused throughout, or go to and fro.
 #[test]
 fn edge_lists() {
     let mut tally = Tally::new("walks at the calendars' edges");
-    compare_edge_lists::<Zhengguang>(&mut tally);
-    compare_edge_lists::<Linde>(&mut tally);
+    compare_edges::<Zhengguang>(&mut tally);
+    compare_edges::<Linde>(&mut tally);
     tally.end(600);
 }
 
-fn compare_edge_lists<L: Library>(tally: &mut Tally) {
+fn compare_edges<L: Library>(tally: &mut Tally) {
     let mut random = Random::new(29);
-    let length = L::walked().months() as i64 - 1;
-    let lists: [&[i64]; 7] = [
-        &[],
-        &[0],
-        &[i64::MIN, i64::MAX, i64::MIN, i64::MAX],
-        &[length, -length, length + 1, -length - 1],
-        &[-length, length, 1, -1],
-        &[i64::MAX, 1, i64::MIN, -1, 0, 1, 1, -2],
-        &[1; 100],
-    ];
-    for row in some_rows::<L>(&mut random, 40) {
-        for counts in lists {
-            compare::<L>(tally, &row, counts);
-        }
-    }
+    let rows = some_rows::<L>(&mut random, 40);
+    compare_edge_lists(&rows, L::walked().months() - 1, |row, counts| {
+        compare::<L>(tally, row, counts);
+    });
 }
 
 /// A walk is the carries one after another.
