@@ -15,13 +15,8 @@ use Rattle.reckoning.specs.Search.{pick, all}
 use Rattle.reckoning.proofs.Searches.{all_at, both_left, both_right}
 use Rattle.units.specs.Xinghe.{N, C, P, T}
 use Rattle.anomaly.specs.Rates.{printed, sum_of}
-use Rattle.anomaly.specs.Amounts.{sized_of, amount_of, change, raises, changed, correction_on}
-use Rattle.anomaly.specs.AnyRates.{Day}
+use Rattle.anomaly.specs.Amounts.{sized_of, amount_of, raises, changed, Lowers, Day, correction_on}
 use Rattle.anomaly.specs.Corrections.{anomaly_at, correction_at}
-
--- a change that lowers does not exceed the amount
-abbrev pub Lowers : Bool → ℕ → ℕ → Type 0
-Lowers up amount change = up ≡ false → change ≤ amount
 
 -- the bound on a correction of that sign
 abbrev pub limit : Bool → ℕ
@@ -57,10 +52,10 @@ unfolding amount_of sum_of
 all_fair = tt
 
 -- the anomaly's day and rest at an instant in halves
-abbrev pub anomaly_day : ℕ → ℕ
+abbrev anomaly_day : ℕ → ℕ
 anomaly_day h = h % (2 * T) / (2 * N) + 1
 
-abbrev pub anomaly_rest : ℕ → ℕ
+abbrev anomaly_rest : ℕ → ℕ
 anomaly_rest h = h % (2 * T) % (2 * N)
 
 -- they are those of the whole parts and the half
@@ -78,13 +73,16 @@ rest_longest h = omega arith
 fair_at : (h : ℕ) → D.T (fair printed (anomaly_day h))
 fair_at h = all_at (fair printed) 29 all_fair (anomaly_day h) (omega arith)
 
--- LOWERING NEVER EXCEEDS THE AMOUNT, by the printed rates
-pub lowers_at : (h : ℕ) → Lowers (raises (anomaly_day h)) (amount_of printed (anomaly_day h)).size (change (get_or printed (anomaly_day h - 1) (pos 0)) (anomaly_rest h))
-lowers_at h =
-    may_lower (raises (anomaly_day h)) (amount_of printed (anomaly_day h)).size (sized_of (get_or printed (anomaly_day h - 1) (pos 0))).size (longest (anomaly_day h)) (limit (amount_of printed (anomaly_day h)).minus) (anomaly_rest h) (fair_at h) (rest_longest h)
-
+-- LOWERING NEVER EXCEEDS THE AMOUNT
 pub day_at : (h : ℕ) → Day printed (anomaly_day h) (anomaly_rest h)
-day_at h = record { are_rates_lem = tt; from = omega arith; upto = omega arith; rest_bound = omega arith }
+day_at h =
+    record {
+      rates_small = tt;
+      from = omega arith;
+      upto = omega arith;
+      rest_bound = omega arith;
+      lowers = may_lower (raises (anomaly_day h)) (amount_of printed (anomaly_day h)).size (sized_of (get_or printed (anomaly_day h - 1) (pos 0))).size (longest (anomaly_day h)) (limit (amount_of printed (anomaly_day h)).minus) (anomaly_rest h) (fair_at h) (rest_longest h);
+    }
 
 -- THE CORRECTION STAYS BETWEEN −83,462 AND 96,507, at every instant
 pub correction_within : (h : ℕ) → (correction_at printed h).size ≤ limit (correction_at printed h).minus

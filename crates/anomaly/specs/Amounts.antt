@@ -1,9 +1,9 @@
 -- Accumulated amounts and corrections, worked out from any list of rates (01, "The moon's correction").
 -- Assumes nothing.
-use Rattle.std.specs.Prelude.{Bool, true, false, ◌&&◌, ◌||◌, List, ℕ, suc, ◌+◌, ◌-◌, ◌*◌, ◌/◌, leb, eqb, ℤ, pos, negsuc, neg_ℤ, get_or}
+use Rattle.std.specs.Prelude.{Bool, true, false, ◌&&◌, ◌||◌, List, ℕ, suc, ◌+◌, ◌-◌, ◌*◌, ◌/◌, ◌≤◌, ◌<◌, ◌≡◌, T, leb, eqb, ℤ, pos, negsuc, neg_ℤ, get_or}
 use Rattle.reckoning.specs.Search.{pick}
 use Rattle.units.specs.Xinghe.{N, C}
-use Rattle.anomaly.specs.Rates.{sum_of}
+use Rattle.anomaly.specs.Rates.{small, sum_of}
 use Rattle.anomaly.specs.declared.amounts.Amount.{Amount}
 
 -- a whole number by its sign and its size, and back, with one nought
@@ -34,9 +34,12 @@ change rate rest = (sized_of rate).size * rest / (2 * C)
 abbrev pub raises : ℕ → Bool
 raises day = leb day 7 || (leb 15 day && leb day 21)
 
--- what it lowers by more than the amount leaves 0, since no absolute value is below it
 abbrev pub changed : Bool → ℕ → ℕ → ℕ
 changed up amount change = pick up (amount + change) (amount - change)
+
+-- a change that lowers does not exceed the amount
+abbrev pub Lowers : Bool → ℕ → ℕ → Type 0
+Lowers up amount change = up ≡ false → change ≤ amount
 
 -- the correction on a day at a rest in halves
 unfoldable pub correction_on : List ℤ → ℕ → ℕ → Amount
@@ -45,3 +48,11 @@ correction_on rates day rest =
       minus = (amount_of rates day).minus;
       size = changed (raises day) (amount_of rates day).size (change (get_or rates (day - 1) (pos 0)) rest);
     }
+
+-- rates from −1,000 to 1,000, a day of the anomaly, and a rest in halves whose change lowers no amount below 0
+pub record Day (rates : List ℤ) (day rest : ℕ) : Type 0 where
+  pub rates_small : T (small rates)
+  pub from : 0 < day
+  pub upto : day ≤ 28
+  pub rest_bound : rest ≤ 2 * N
+  pub lowers : Lowers (raises day) (amount_of rates day).size (change (get_or rates (day - 1) (pos 0)) rest)

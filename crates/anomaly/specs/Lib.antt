@@ -1,5 +1,4 @@
 pub mod Rates
 pub mod Amounts
 pub mod Corrections
-pub mod AnyRates
 pub mod Steps

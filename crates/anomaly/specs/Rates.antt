@@ -1,7 +1,6 @@
 -- The signed rates of the anomaly (01, "The moon's correction").
 -- Assumes nothing.
-use Rattle.std.specs.Prelude.{Bool, ◌&&◌, List, [], ◌∷◌, ℕ, zero, suc, leb, eqb, ℤ, pos, neg_ℤ, nat_abs, ◌+ℤ◌, get_or, length}
-use Rattle.reckoning.specs.Search.{all}
+use Rattle.std.specs.Prelude.{Bool, true, ◌&&◌, List, [], ◌∷◌, ℕ, zero, suc, leb, ℤ, pos, neg_ℤ, nat_abs, ◌+ℤ◌}
 
 abbrev plus : ℕ → ℤ
 plus n = pos n
@@ -18,12 +17,10 @@ printed =
     ∷ plus 63 ∷ plus 225 ∷ plus 388 ∷ plus 549 ∷ plus 674 ∷ plus 701 ∷ plus 734
     ∷ []
 
--- a list of rates: 28, each from −1,000 to 1,000
-abbrev pub is_small : ℤ → Bool
-is_small rate = leb (nat_abs rate) 1000
-
-abbrev pub are_rates : List ℤ → Bool
-are_rates rates = eqb (length rates) 28 && all (λ (i : ℕ). is_small (get_or rates i (pos 0))) 28
+-- each rate is from −1,000 to 1,000
+abbrev pub small : List ℤ → Bool
+small [] = true
+small (r ∷ rs) = leb (nat_abs r) 1000 && small rs
 
 -- the sum of the first k rates
 unfoldable pub sum_of : List ℤ → ℕ → ℤ

@@ -5,9 +5,8 @@ ghost use Rattle.units.specs.Xinghe.{P, T, round_months};
 ghost use Rattle.anomaly.specs.Rates.{printed};
 ghost use Rattle.anomaly.specs.Corrections.{CorrectionBound, anomaly_at, correction_at, moved, corrected_at, corrections_of};
 ghost use Rattle.anomaly.specs.Steps.{into_anomaly, next_into};
-ghost use Rattle.anomaly.specs.AnyRates.{is_anomaly};
 
-use crate::amounts::{Amount, DAYS};
+use crate::amounts::Amount;
 use units::Xinghe;
 use units::remainder::{DayCarry, DayRemainder};
 
@@ -39,32 +38,10 @@ pub struct Corrections {
 }
 
 // The signed rates of days 1 to 28, as printed.
-const RATES: [i64; DAYS] = [
+const RATES: [i64; 28] = [
     757, 689, 616, 545, 466, 315, 89, -139, -283, -390, -502, -618, -729, -816, -731, -646, -558,
     -445, -334, -214, -79, 63, 225, 388, 549, 674, 701, 734,
 ];
-
-pub fn printed_rates() -> [i64; 28]
-    ensures { result ≡ printed }
-{
-    RATES
-}
-
-// Whether some instant of the round of the anomaly has that day, rest and half of a part.
-pub fn is_anomaly(day: u64, rest: u64, half: u64) -> bool
-    ensures { result ≡ is_anomaly day rest half }
-{
-    if day < 1 {
-        return false;
-    }
-    if 28 < day {
-        return false;
-    }
-    if Xinghe::N <= rest {
-        return false;
-    }
-    (half < 2) & ((day - 1) * Xinghe::N + rest < Xinghe::T)
-}
 
 // The anomaly at an instant in halves of a part.
 fn anomaly_at(instant: u64) -> Anomaly
@@ -122,9 +99,7 @@ fn correction_at(instant: u64) -> Amount
     let since = instant % (2 * Xinghe::T);
     let day = since / (2 * Xinghe::N) + 1;
     let rest = since % (2 * Xinghe::N);
-    let rates = printed_rates();
-    let known = amounts::known_day(&rates, day);
-    amounts::correction_in(known, day, rest)
+    amounts::correction_on(RATES, day, rest)
 }
 
 // A day and its remainder, moved by a correction: a positive one is taken from the remainder, a negative one added.

@@ -11,12 +11,10 @@ use Rattle.node.specs.declared.Node.{Node}
 use Rattle.node.specs.declared.Nodes.{Nodes}
 use Rattle.anomaly.specs.declared.Corrected.{Corrected}
 use Rattle.anomaly.specs.declared.Corrections.{Corrections}
-use Rattle.anomaly.specs.declared.amounts.DayCorrection.{DayCorrection}
 use Rattle.sun.specs.declared.Point.{Point}
 use Rattle.ephemeris.specs.declared.PhasesAnswer.{PhasesAnswer}
 use Rattle.ephemeris.specs.declared.NodesAnswer.{NodesAnswer}
 use Rattle.ephemeris.specs.declared.CorrectionsAnswer.{CorrectionsAnswer}
-use Rattle.ephemeris.specs.declared.DayCorrectionAnswer.{DayCorrectionAnswer}
 use Rattle.ephemeris.specs.declared.PointAnswer.{PointAnswer}
 
 abbrev pub phases_number : PhasesAnswer → ℕ
@@ -70,17 +68,6 @@ zero_corrections = record { new = zero_corrected; full = zero_corrected }
 abbrev pub corrections_values : CorrectionsAnswer → Corrections
 corrections_values (CorrectionsAnswer.Answered x) = x
 corrections_values (CorrectionsAnswer.Refused e) = zero_corrections
-
-abbrev pub day_correction_number : DayCorrectionAnswer → ℕ
-day_correction_number (DayCorrectionAnswer.Answered x) = 0
-day_correction_number (DayCorrectionAnswer.Refused e) = number_of e
-
-abbrev pub zero_day_correction : DayCorrection
-zero_day_correction = record { amount = pos 0; correction = pos 0 }
-
-abbrev pub day_correction_values : DayCorrectionAnswer → DayCorrection
-day_correction_values (DayCorrectionAnswer.Answered x) = x
-day_correction_values (DayCorrectionAnswer.Refused e) = zero_day_correction
 
 abbrev pub point_number : PointAnswer → ℕ
 point_number (PointAnswer.Answered x) = 0

@@ -1,6 +1,6 @@
 -- The jobs of the sky (01, "Phases and cuts of the year", "Nodes and eclipses", "The moon's correction"), on all inputs.
 -- Assumes nothing.
-use Rattle.std.specs.Prelude.{◌&&◌, List, ℕ, ◌+◌, ◌*◌, ltb, ℤ}
+use Rattle.std.specs.Prelude.{◌&&◌, ℕ, ltb}
 use Rattle.reckoning.specs.Search.{pick}
 use Rattle.refusal.specs.declared.Refusal.{Refusal}
 use Rattle.lunisolar.specs.Calendars.{year_at, lunation_at}
@@ -9,14 +9,11 @@ use Rattle.lunisolar.specs.declared.LunationAnswer.{LunationAnswer}
 use Rattle.units.specs.Xinghe.{xinghe}
 use Rattle.moon.specs.Phases.{phases_of}
 use Rattle.node.specs.Nodes.{nodes_of}
-use Rattle.anomaly.specs.Rates.{are_rates}
-use Rattle.anomaly.specs.AnyRates.{is_anomaly, day_correction}
 use Rattle.anomaly.specs.Corrections.{corrections_of}
 use Rattle.sun.specs.Points.{is_cut, point_of}
 use Rattle.ephemeris.specs.declared.PhasesAnswer.{PhasesAnswer}
 use Rattle.ephemeris.specs.declared.NodesAnswer.{NodesAnswer}
 use Rattle.ephemeris.specs.declared.CorrectionsAnswer.{CorrectionsAnswer}
-use Rattle.ephemeris.specs.declared.DayCorrectionAnswer.{DayCorrectionAnswer}
 use Rattle.ephemeris.specs.declared.PointAnswer.{PointAnswer}
 
 -- of the month at place p of year n: refused under 1, then under 2, as its row is
@@ -40,14 +37,6 @@ corrections_for (LunationAnswer.Refused e) = CorrectionsAnswer.Refused e
 
 abbrev pub corrections_at : ℕ → ℕ → CorrectionsAnswer
 corrections_at n p = corrections_for (lunation_at xinghe n p)
-
--- amount and correction on a day of the anomaly, by any rates (02 §10): refused under 3 where no instant has that day, rest and half, then under
--- 14 where the list is not 28 rates from −1,000 to 1,000
-unfoldable pub correction_by_rates : List ℤ → ℕ → ℕ → ℕ → DayCorrectionAnswer
-correction_by_rates rates day rest half =
-    pick (is_anomaly day rest half)
-    (pick (are_rates rates) (DayCorrectionAnswer.Answered (day_correction rates day (2 * rest + half))) (DayCorrectionAnswer.Refused Refusal.Rates))
-    (DayCorrectionAnswer.Refused Refusal.DayOfAnomaly)
 
 -- point i of cut c of the year with y years past: refused under 8 where the cut is not 24, 60 or 72, or the point not below it
 unfoldable pub point_in : ℕ → ℕ → ℕ → PointAnswer

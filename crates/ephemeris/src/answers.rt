@@ -1,9 +1,8 @@
 // Each answer's number, 0 where it is answered, and its values, all zero where it is refused.
 ghost use Rattle.std.specs.Prelude.{◌≡◌};
-ghost use Rattle.ephemeris.specs.Answers.{phases_number, phases_values, zero_phases, nodes_number, nodes_values, zero_nodes, corrections_number, corrections_values, zero_corrections, day_correction_number, day_correction_values, zero_day_correction, point_number, point_values, zero_point};
+ghost use Rattle.ephemeris.specs.Answers.{phases_number, phases_values, zero_phases, nodes_number, nodes_values, zero_nodes, corrections_number, corrections_values, zero_corrections, point_number, point_values, zero_point};
 
-use crate::{CorrectionsAnswer, DayCorrectionAnswer, NodesAnswer, PhasesAnswer, PointAnswer};
-use anomaly::amounts::DayCorrection;
+use crate::{CorrectionsAnswer, NodesAnswer, PhasesAnswer, PointAnswer};
 use anomaly::{Anomaly, Corrected, Corrections};
 use moon::phases::{Phase, Phases};
 use node::{Distance, Eclipse, Node, Nodes, Side};
@@ -66,26 +65,6 @@ impl CorrectionsAnswer {
         match self {
             CorrectionsAnswer::Answered(corrections) => corrections,
             CorrectionsAnswer::Refused(_) => zero_corrections(),
-        }
-    }
-}
-
-impl DayCorrectionAnswer {
-    pub fn number(self) -> u64
-        ensures { result ≡ day_correction_number self }
-    {
-        match self {
-            DayCorrectionAnswer::Answered(_) => 0,
-            DayCorrectionAnswer::Refused(e) => e.number(),
-        }
-    }
-
-    pub fn values(self) -> DayCorrection
-        ensures { result ≡ day_correction_values self }
-    {
-        match self {
-            DayCorrectionAnswer::Answered(found) => found,
-            DayCorrectionAnswer::Refused(_) => zero_day_correction(),
         }
     }
 }
@@ -168,15 +147,6 @@ pub fn zero_corrections() -> Corrections
     Corrections {
         new: zero,
         full: zero,
-    }
-}
-
-pub fn zero_day_correction() -> DayCorrection
-    ensures { result ≡ zero_day_correction }
-{
-    DayCorrection {
-        amount: 0,
-        correction: 0,
     }
 }
 

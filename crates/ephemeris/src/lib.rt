@@ -1,10 +1,9 @@
-// The sky asked of a year and a place: phases, nodes and eclipses, corrections; the correction by any rates; and the points of a cut of a year. All
-// of a month's come in one answer. Months begin by the mean moon: nothing here moves a month.
+// The sky asked of a year and a place: phases, nodes and eclipses, corrections; and the points of a cut of a year. All of a month's come in one
+// answer. Months begin by the mean moon: nothing here moves a month.
 ghost use Rattle.std.specs.Prelude.{◌≡◌, ◌<◌};
-ghost use Rattle.ephemeris.specs.Jobs.{phases_at, nodes_at, corrections_at, correction_by_rates, point_in, cut_point};
+ghost use Rattle.ephemeris.specs.Jobs.{phases_at, nodes_at, corrections_at, point_in, cut_point};
 
 use anomaly::Corrections;
-use anomaly::amounts::DayCorrection;
 use lunisolar::{LunationAnswer, YearAnswer};
 use moon::phases::Phases;
 use node::Nodes;
@@ -29,12 +28,6 @@ pub enum NodesAnswer {
 #[derive(Drop)]
 pub enum CorrectionsAnswer {
     Answered(Corrections),
-    Refused(Refusal),
-}
-
-#[derive(Drop)]
-pub enum DayCorrectionAnswer {
-    Answered(DayCorrection),
     Refused(Refusal),
 }
 
@@ -69,20 +62,6 @@ pub fn corrections(year: u64, place: u64) -> CorrectionsAnswer
         LunationAnswer::Lunation(m) => CorrectionsAnswer::Answered(anomaly::corrections_of(m)),
         LunationAnswer::Refused(e) => CorrectionsAnswer::Refused(e),
     }
-}
-
-// Amount and correction on a day of the anomaly, at a rest over N and a half of a part or none, by any 28 rates.
-pub fn correction_by_rates(rates: &[i64], day: u64, rest: u64, half: u64) -> DayCorrectionAnswer
-    ensures { result ≡ correction_by_rates rates.now day rest half }
-{
-    if !anomaly::is_anomaly(day, rest, half) {
-        return DayCorrectionAnswer::Refused(Refusal::DayOfAnomaly);
-    }
-    if !anomaly::amounts::are_rates(rates) {
-        return DayCorrectionAnswer::Refused(Refusal::Rates);
-    }
-    let halves = 2 * rest + half;
-    DayCorrectionAnswer::Answered(anomaly::amounts::day_correction(rates, day, halves))
 }
 
 // Each cut has a branch of its own, so that its divisions are by a constant.

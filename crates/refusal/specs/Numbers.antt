@@ -1,10 +1,10 @@
 -- The number of each refusal, as 01 "Numbers returned" and 02 have them: 3 is 01's for the day of a month and 02 §3's for a day of the sixty; 2 and 6 are
--- 01's for a place and a list, and 02 §6's for a span and a buffer. 3 for a day of the anomaly and 14 are the house's, since 02 §10 lists none.
+-- 01's for a place and a list, and 02 §6's for a span and a buffer.
 -- An answered job has number 0.
 -- Assumes nothing.
 use Rattle.std.specs.Prelude.{ℕ}
 use Rattle.refusal.specs.declared.Refusal.{Refusal}
-use Rattle.refusal.specs.declared.Refusal.TheVariants.{Year, Place, DayOfMonth, Row, Carry, List, Day, Cut, Planet, DayOfSixty, Names, Span, Room, Volume, Block, FirstYear, DayOfAnomaly, Rates}
+use Rattle.refusal.specs.declared.Refusal.TheVariants.{Year, Place, DayOfMonth, Row, Carry, List, Day, Cut, Planet, DayOfSixty, Names, Span, Room, Volume, Block, FirstYear}
 
 abbrev pub number_of : Refusal → ℕ
 number_of Year = 1
@@ -23,5 +23,3 @@ number_of Room = 6
 number_of Volume = 11
 number_of Block = 12
 number_of FirstYear = 13
-number_of DayOfAnomaly = 3
-number_of Rates = 14

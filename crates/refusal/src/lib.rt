@@ -36,10 +36,6 @@ pub enum Refusal {
     Block,
     // a volume to be mended whose blocks tell no first year: none is sound, sound ones imply different first years, or the run leaves the round
     FirstYear,
-    // a day, rest and half that no instant has in the round of the anomaly
-    DayOfAnomaly,
-    // a list that is not 28 rates from -1,000 to 1,000
-    Rates,
 }
 
 impl Refusal {
@@ -63,8 +59,6 @@ impl Refusal {
             Refusal::Volume => 11,
             Refusal::Block => 12,
             Refusal::FirstYear => 13,
-            Refusal::DayOfAnomaly => 3,
-            Refusal::Rates => 14,
         }
     }
 }

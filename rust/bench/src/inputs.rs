@@ -11,9 +11,6 @@ pub struct Inputs {
     pub calendar: CalendarInputs<ROW>,
     pub conjunctions: Vec<(u64, u64)>,
     pub planets: Vec<u64>,
-    pub rates: Vec<Rates>,
-    /// A list of rates by its index, a day of the anomaly, its rest and a half.
-    pub anomalies: Vec<(usize, u64, u64, u64)>,
     /// Days of the sixty, and how long their list is.
     pub labels: Vec<(u64, usize)>,
     /// The first years of volumes, and the volumes.
@@ -24,10 +21,6 @@ pub struct Inputs {
     /// A volume by its index, and a first and a last year within it.
     pub spans: Vec<(usize, u64, u64)>,
 }
-
-pub type Rates = [i64; fast::ANOMALY_DAYS];
-/// Few enough that the processor's cache holds them.
-const LISTS: usize = 1 << 8;
 
 /// The years of a volume.
 pub const VOLUME_YEARS: u64 = 20;
@@ -57,18 +50,6 @@ impl Random {
 
     fn planet(&mut self) -> u64 {
         1 + self.below(5)
-    }
-
-    fn rates(&mut self) -> Rates {
-        let greatest = fast::GREATEST_RATE as i64;
-        [0; _].map(|_| self.below(2 * fast::GREATEST_RATE + 1) as i64 - greatest)
-    }
-
-    /// Any moment of the round as often as any other.
-    fn anomaly(&mut self) -> (usize, u64, u64, u64) {
-        let list = self.below(LISTS as u64) as usize;
-        let (parts, half) = (self.below(fast::T), self.below(2));
-        (list, parts / fast::N + 1, parts % fast::N, half)
     }
 
     /// Half of the lists of theirs are a byte short, so that the house's is taken.
@@ -132,13 +113,10 @@ impl Inputs {
         let scratched = volumes
             .iter()
             .map(|whole| scratches_random.scratched(whole));
-        let mut rates_random = Random::new(4);
         Self {
             calendar: draw.inputs(),
             conjunctions: some(COUNT, || (draw.year(), draw.random.planet())),
             planets: some(COUNT, || draw.random.planet()),
-            rates: some(LISTS, || rates_random.rates()),
-            anomalies: some(COUNT, || rates_random.anomaly()),
             labels: some(COUNT, || draw.random.label()),
             scratched: scratched.collect(),
             volumes,

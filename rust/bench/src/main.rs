@@ -163,34 +163,6 @@ fn moons(inputs: &CalendarInputs<ROW>) -> [Line; 4] {
     ]
 }
 
-fn rates(inputs: &Inputs) -> [Line; 2] {
-    [
-        measure(
-            "correction by any rates",
-            &inputs.anomalies,
-            [0; 4],
-            |&(list, day, rest, half), out| {
-                let rates = &inputs.rates[list];
-                // SAFETY: pointer and length are those of an array.
-                unsafe {
-                    let (rates, length) = (rates.as_ptr(), rates.len());
-                    raw::xinghe_correction_by_rates(rates, length, day, rest, half, out)
-                }
-            },
-            |&(list, day, rest, half), out| {
-                fast::correction_by_rates(&inputs.rates[list], day, rest, half, out)
-            },
-        ),
-        measure(
-            "the printed rates",
-            &[(); 256],
-            [0; _],
-            |(), out| raw::xinghe_printed_rates(out),
-            |(), out| fast::printed_rates(out),
-        ),
-    ]
-}
-
 fn planets(inputs: &Inputs) -> [Line; 2] {
     let blank: Stages = ([0], [[0; 10]; 14]);
     [
@@ -355,7 +327,6 @@ fn main() {
     }
     cuts(calendar).iter().for_each(Line::print);
     moons(calendar).iter().for_each(Line::print);
-    rates(&inputs).iter().for_each(Line::print);
     planets(&inputs).iter().for_each(Line::print);
     names(&inputs).iter().for_each(Line::print);
     volumes(&inputs).iter().for_each(Line::print);

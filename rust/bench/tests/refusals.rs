@@ -140,41 +140,6 @@ fn cuts() {
     }
 }
 
-/// Lists of every kind, each at days, rests and halves of every kind.
-#[test]
-fn corrections_by_rates() {
-    let printed = xinghe::printed_rates();
-    for rates in lists_of_rates(&printed) {
-        for day in [0, 1, 8, 14, 15, 16, 27, 28, 29, u64::MAX] {
-            for rest in [0, 115_630, 115_631, 208_529, 208_530, u64::MAX] {
-                for half in [0, 1, 2, u64::MAX] {
-                    let mut out = [OTHER; 4];
-                    let number = fast::correction_by_rates(&rates, day, rest, half, &mut out);
-                    let expected = xinghe::correction_by_rates(&rates, day, rest, half);
-                    assert_eq!((number, out), numbered(expected));
-                }
-            }
-        }
-    }
-    let mut rates = [OTHER as i64; xinghe::RATES];
-    assert_eq!(fast::printed_rates(&mut rates), 0);
-    assert_eq!(rates, printed);
-}
-
-/// Of every length, and with each rate at the edges.
-fn lists_of_rates(printed: &[i64; xinghe::RATES]) -> Vec<Vec<i64>> {
-    let long = printed.repeat(2);
-    let mut lists: Vec<_> = (0..=long.len()).map(|end| long[..end].to_vec()).collect();
-    for index in 0..xinghe::RATES {
-        for rate in [i64::MIN, -1_001, -1_000, 0, 1_000, 1_001, i64::MAX] {
-            let mut rates = printed.to_vec();
-            rates[index] = rate;
-            lists.push(rates);
-        }
-    }
-    lists
-}
-
 #[test]
 fn planets() {
     for planet in [0, 1, 2, 3, 4, 5, 6, u64::MAX] {

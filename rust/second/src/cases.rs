@@ -11,7 +11,6 @@ use crate::mending_cases;
 use crate::name_cases;
 use crate::numbers::CHAPTER_YEARS;
 use crate::planet_cases;
-use crate::rate_cases;
 use crate::reign_cases;
 use crate::sixty;
 use crate::volume_cases;
@@ -80,7 +79,6 @@ fn edge_lines() -> Vec<String> {
         cut(1, 60, 59),
         cut(1_011_600, 24, 23),
     ]);
-    lines.extend(rate_cases::lines());
     lines.extend(planet_cases::lines());
     lines.extend(name_cases::lines());
     lines.extend(volume_cases::lines());

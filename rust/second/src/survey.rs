@@ -1,5 +1,5 @@
 //! The survey: counts and digests for each era and for the round, then for the other
-//! calendars, and a digest for lists of rates.
+//! calendars.
 
 use std::io::{self, Write};
 
@@ -9,7 +9,6 @@ use crate::digest::Digest;
 use crate::mending;
 use crate::month_counts::MonthCounts;
 use crate::numbers::{ERAS, ERA_YEARS};
-use crate::rate_survey;
 use crate::reigns;
 use crate::volumes;
 use crate::walker::{Walker, Year};
@@ -159,7 +158,7 @@ pub fn write(out: &mut impl Write) -> io::Result<()> {
     for line in calendars::survey::lines() {
         out.write_all(line.as_bytes())?;
     }
-    out.write_all(rate_survey::line().as_bytes())
+    Ok(())
 }
 
 fn survey_era(walker: &mut Walker, volume: &mut Volume) -> (Counts, Digests) {

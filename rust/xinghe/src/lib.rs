@@ -2,15 +2,14 @@
 //!
 //! Every function takes any numbers whatever. `Err` holds the number under
 //! which the library refuses: 1 the year, 2 the place, a span in the wrong order or
-//! with years that are not in the volume, 3 the day of the month or of the sixty, or the
-//! day or rest of the anomaly, 4 a row that is not genuine, 5 a carry out of the round,
-//! 6 a list or buffer too short, 7 the day number, 8 the cut or its point, 9 the planet,
-//! 10 two lists of names of which neither is 360 bytes, 11 a volume that is empty or no
-//! whole number of blocks, or that has too many of them to be mended, 12 a block that is
-//! not what the writer gives, or of those that [`marked`] looks at one with a wrong check
-//! or totals that have fallen, 13 a scratched volume whose first year is not known or
-//! whose run leaves the round, 14 a list that is not 28 rates from -1,000 to 1,000.
-//! include/xinghe.h says what each value means; the arrays here are in its order.
+//! with years that are not in the volume, 3 the day of the month or of the sixty, 4 a
+//! row that is not genuine, 5 a carry out of the round, 6 a list or buffer too short,
+//! 7 the day number, 8 the cut or its point, 9 the planet, 10 two lists of names of
+//! which neither is 360 bytes, 11 a volume that is empty or no whole number of blocks,
+//! or that has too many of them to be mended, 12 a block that is not what the writer
+//! gives, or of those that [`marked`] looks at one with a wrong check or totals that have
+//! fallen, 13 a scratched volume whose first year is not known or whose run leaves the
+//! round. include/xinghe.h says what each value means; the arrays here are in its order.
 //!
 //! Two further calendars have modules of their own, [`zhengguang`] and [`linde`].
 
@@ -33,9 +32,6 @@ pub type Row = [u64; ROW];
 /// The bytes of a day's name, and of a list of sixty names.
 pub const NAME: usize = 6;
 pub const NAMES: usize = 360;
-
-/// How many rates a list has: one for each day of the anomaly.
-pub const RATES: usize = 28;
 
 /// The bytes of a volume's block: one year.
 pub const BLOCK: usize = 512;
@@ -100,35 +96,6 @@ pub fn nodes(year: u64, place: u64) -> Answer<[u64; 15]> {
 /// The moon's corrections: six numbers of the new moon, eight of the full moon.
 pub fn corrections(year: u64, place: u64) -> Answer<[u64; 14]> {
     answer(|out| raw::xinghe_corrections(year, place, out))
-}
-
-/// The moon's correction by any [`RATES`] rates, at a day of the anomaly, which is 1 to
-/// 28, a rest of it and half a part more or not: 1 where the amount before the day is
-/// below 0, its size, 1 where the correction is below 0, its size.
-///
-/// ```
-/// let rates = xinghe::printed_rates();
-/// let [day, rest, below, size, ..] = xinghe::corrections(293_997, 0).unwrap();
-/// assert_eq!((day, rest), (14, 188_982));
-/// let by_rates = xinghe::correction_by_rates(&rates, day, rest, 0);
-/// assert_eq!(by_rates, Ok([0, 22_649, below, size]));
-/// assert_eq!(xinghe::correction_by_rates(&rates[1..], day, rest, 0), Err(14));
-/// ```
-pub fn correction_by_rates(rates: &[i64], day: u64, rest: u64, half: u64) -> Answer<[u64; 4]> {
-    answer(|out| {
-        // SAFETY: as in `fill_year`; the rates are only read.
-        unsafe {
-            let (rates, length) = (rates.as_ptr(), rates.len());
-            raw::xinghe_correction_by_rates(rates, length, day, rest, half, out)
-        }
-    })
-}
-
-/// The rates that the treatise prints, by which [`corrections`] are made.
-pub fn printed_rates() -> [i64; RATES] {
-    let mut rates = [0; RATES];
-    raw::xinghe_printed_rates(&mut rates);
-    rates
 }
 
 /// Day, remainder and rest of a point of the cut of a year in 24, 60 or 72.

@@ -30,17 +30,6 @@ unsafe extern "C" {
     pub safe fn xinghe_stages(planet: u64, count: &mut [u64; 1], out: &mut [[u64; 10]; 14]) -> u64;
 
     pub safe fn xinghe_ganzhi_names(out: &mut [u8; 360]) -> u64;
-    pub safe fn xinghe_printed_rates(out: &mut [i64; 28]) -> u64;
-
-    /// `rates` points to `length` numbers, and is neither null nor unaligned.
-    pub fn xinghe_correction_by_rates(
-        rates: *const i64,
-        length: usize,
-        day: u64,
-        rest: u64,
-        half: u64,
-        out: &mut [u64; 4],
-    ) -> u64;
 
     /// Each list points to as many bytes as the length after it says, and is not
     /// null.

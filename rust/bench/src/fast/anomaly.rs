@@ -1,17 +1,12 @@
-//! The moon's corrections, from a table worked out while compiling or from any rates.
+//! The moon's corrections, from a table worked out while compiling.
 
 use super::moon::{full_moon, new_moon, split, HALF_AT_FULL};
 use super::rows::{N, P};
 
-/// Parts of the round of the anomaly.
-pub const T: u64 = 5_745_941;
+const T: u64 = 5_745_941;
 const SMALL_CIRCUIT: u64 = 7_513;
 
-/// The days of the anomaly, each with a rate.
-pub const ANOMALY_DAYS: usize = 28;
-pub const GREATEST_RATE: u64 = 1_000;
-
-pub const RATES: [i64; ANOMALY_DAYS] = [
+const RATES: [i64; 28] = [
     757, 689, 616, 545, 466, 315, 89, -139, -283, -390, -502, -618, -729, -816, -731, -646, -558,
     -445, -334, -214, -79, 63, 225, 388, 549, 674, 701, 734,
 ];
@@ -27,45 +22,31 @@ struct Day {
     sign: i64,
 }
 
-static DAYS: [Day; ANOMALY_DAYS] = days();
+static DAYS: [Day; 28] = days();
 
-const fn days() -> [Day; ANOMALY_DAYS] {
+const fn days() -> [Day; 28] {
     let mut days = [Day {
         amount: 0,
         change: 0,
         sign: 1,
-    }; ANOMALY_DAYS];
+    }; 28];
     let (mut sum, mut i) = (0, 0);
-    while i < ANOMALY_DAYS {
-        days[i] = day(i, RATES[i], sum);
+    while i < 28 {
+        days[i] = day(i, sum);
         sum += RATES[i];
         i += 1;
     }
     days
 }
 
-const fn day(index: usize, rate: i64, sum: i64) -> Day {
+const fn day(index: usize, sum: i64) -> Day {
     let twice = 2 * sum.unsigned_abs() * N;
-    let rate = rate.abs();
+    let rate = RATES[index].abs();
     let raises = matches!(index, 0..=6 | 14..=20);
     Day {
         amount: ((twice + SMALL_CIRCUIT) / (2 * SMALL_CIRCUIT)) as i64,
         change: if raises { rate } else { -rate },
-        sign: if sum < 0 || (sum == 0 && index == 14) {
-            -1
-        } else {
-            1
-        },
-    }
-}
-
-impl Day {
-    /// Size of the correction at a rest of the day; below 0 where it is lowered past
-    /// nothing, which by the printed rates it never is.
-    #[inline]
-    fn size(self, rest: u64, half: u64) -> i64 {
-        let change = self.change.unsigned_abs() * (2 * rest + half) / (2 * SMALL_CIRCUIT);
-        self.amount + change as i64 * self.change.signum()
+        sign: if sum < 0 || index == 14 { -1 } else { 1 },
     }
 }
 
@@ -104,7 +85,8 @@ impl Anomaly {
 fn corrected(instant: u64, half: u64, day_at: impl Fn(usize) -> Day) -> [u64; 6] {
     let [number, rest] = Anomaly::at(instant).numbers();
     let day = day_at(number as usize - 1);
-    let size = day.size(rest, half);
+    let change = day.change.unsigned_abs() * (2 * rest + half) / (2 * SMALL_CIRCUIT);
+    let size = day.amount + change as i64 * day.change.signum();
     // No correction comes before day 0, and none is of a whole day.
     let moved = instant.wrapping_add_signed(-(day.sign * size));
     [
@@ -147,32 +129,5 @@ pub fn corrections(lunation: u64) -> [u64; 14] {
 /// Without a table of amounts, as the library works: the rates are added up.
 #[inline]
 pub fn corrections_from_rates(lunation: u64) -> [u64; 14] {
-    both(lunation, |index| of_rates(&RATES, index))
-}
-
-#[inline]
-fn of_rates(rates: &[i64; ANOMALY_DAYS], index: usize) -> Day {
-    day(index, rates[index], rates[..index].iter().sum())
-}
-
-/// Signs and sizes of the amount and of the correction by any list of rates.
-#[inline]
-pub fn by_rates(rates: &[i64], day: u64, rest: u64, half: u64) -> Result<[u64; 4], u64> {
-    let before = day.wrapping_sub(1);
-    if before >= ANOMALY_DAYS as u64 || rest >= N || half > 1 || before * N + rest >= T {
-        return Err(3);
-    }
-    let day = of_rates(listed(rates).ok_or(14_u64)?, before as usize);
-    let size = day.size(rest, half).max(0);
-    let sign = |size| u64::from(day.sign * size < 0);
-    Ok([sign(day.amount), day.amount as u64, sign(size), size as u64])
-}
-
-/// All rates at once, without a jump for each.
-#[inline]
-fn listed(rates: &[i64]) -> Option<&[i64; ANOMALY_DAYS]> {
-    let rates: &[i64; ANOMALY_DAYS] = rates.try_into().ok()?;
-    let greater = rates.map(|rate| rate.unsigned_abs() > GREATEST_RATE);
-    let none = !greater.into_iter().fold(false, |any, one| any | one);
-    none.then_some(rates)
+    both(lunation, |index| day(index, RATES[..index].iter().sum()))
 }

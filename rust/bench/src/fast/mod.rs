@@ -26,14 +26,13 @@ mod volumes;
 mod walks;
 mod zhengguang;
 
-pub use anomaly::{ANOMALY_DAYS, GREATEST_RATE, T};
 pub use boundary::Boundary;
 pub use calendar::Calendar;
 pub use chapter::{Division, MonthsBefore, Table};
 pub use linde::Linde;
 pub use mending::MOST_BLOCKS;
 pub use names::LIST;
-pub use rows::{Row, N, ROUND_DAYS, ROUND_MONTHS, ROUND_YEARS, ROW, SIXTY};
+pub use rows::{Row, ROUND_DAYS, ROUND_MONTHS, ROUND_YEARS, ROW, SIXTY};
 pub use volumes::BLOCK;
 pub use zhengguang::Zhengguang;
 
@@ -125,23 +124,6 @@ pub extern "C" fn corrections(year: u64, place: u64, out: &mut [u64; 14]) -> u64
 pub extern "C" fn corrections_from_rates(year: u64, place: u64, out: &mut [u64; 14]) -> u64 {
     let lunation = rows::lunation::<Division>(year, place);
     written(lunation.map(anomaly::corrections_from_rates), out)
-}
-
-#[inline(never)]
-pub fn correction_by_rates(
-    rates: &[i64],
-    day: u64,
-    rest: u64,
-    half: u64,
-    out: &mut [u64; 4],
-) -> u64 {
-    written(anomaly::by_rates(rates, day, rest, half), out)
-}
-
-#[inline(never)]
-pub extern "C" fn printed_rates(out: &mut [i64; ANOMALY_DAYS]) -> u64 {
-    *out = anomaly::RATES;
-    0
 }
 
 #[inline(never)]

@@ -1,6 +1,5 @@
 //! The second program's answers in the order of include/xinghe.h.
 
-use second::anomaly::ByRates;
 use second::ask::Refusal;
 use second::planets::Conjunctions;
 use second::stages::Stage;
@@ -42,13 +41,6 @@ pub fn corrections(month: &Month) -> [u64; 14] {
     let below = i64::from(by < 0);
     let full = [day, rest, half, below, by.abs(), to_day, to_rest, to_half];
     joined(&new.map(|n| n as u64), &full.map(|n| n as u64))
-}
-
-/// Each signed number as a mark below 0 and its size.
-pub fn by_rates(answer: ByRates) -> [u64; 4] {
-    let [amount, correction] = [answer.amount, answer.correction]
-        .map(|signed| [u64::from(signed < 0), signed.unsigned_abs()]);
-    joined(&amount, &correction)
 }
 
 pub fn conjunctions(conjunctions: &Conjunctions) -> [u64; 10] {

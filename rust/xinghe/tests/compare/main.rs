@@ -19,7 +19,6 @@ mod mending_damages;
 mod mending_outcomes;
 mod planets;
 mod random;
-mod rates;
 mod reign_damages;
 mod reign_outcomes;
 mod reigns;

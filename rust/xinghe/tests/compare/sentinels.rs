@@ -3,13 +3,11 @@
 
 use std::hint::black_box;
 
-use second::anomaly::PRINTED;
 use second::sixty;
 use xinghe::{Answer, Row, ROW};
 
 use crate::expected::{LAST_DAY, LAST_YEAR, MONTHS};
 use crate::random::Random;
-use crate::rates::{some_anomaly, some_rates};
 use crate::raw;
 use crate::tally::Tally;
 
@@ -216,33 +214,6 @@ fn labels() {
         }
     }
     tally.end(320);
-}
-
-/// Lists and anomalies at random, some of them refused.
-#[test]
-fn corrections_by_rates() {
-    let mut random = Random::new(33);
-    let mut tally = Tally::new("sentinels of corrections by rates");
-    for _ in 0..50_000 {
-        let rates = some_rates(&mut random);
-        let (day, rest, half) = some_anomaly(&mut random);
-        let safe = xinghe::correction_by_rates(&rates, day, rest, half);
-        compare(&mut tally, safe, |out| {
-            // SAFETY: pointer and length are those of a slice.
-            unsafe {
-                let (rates, length) = (rates.as_ptr(), rates.len());
-                raw::xinghe_correction_by_rates(rates, length, day, rest, half, out)
-            }
-        });
-    }
-    tally.end(50_000);
-}
-
-#[test]
-fn printed_rates() {
-    let mut lent = Lent::new([SENTINEL as i64; 28]);
-    assert_eq!(raw::xinghe_printed_rates(&mut lent.out), 0);
-    assert_eq!(lent.given_back(), PRINTED);
 }
 
 #[test]

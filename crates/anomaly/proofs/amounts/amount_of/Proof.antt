@@ -11,16 +11,16 @@ use Rattle.anomaly.proofs.amounts.amount_of.Statement.{statement}
 use Rattle.anomaly.proofs.amounts.amount_of.Tie as tie
 
 -- the sum by its sign and size, which the code holds as bits
-sum_is : (a : tie.After-sized-of) → a.Sized-of.result ≡ sized_of (sum_of a.before.before.args.rates.now (a.before.before.args.day - 1))
+sum_is : (a : tie.After-sized-of) → a.Sized-of.result ≡ sized_of (sum_of a.before.before.args.rates (a.before.before.args.day - 1))
 sum_is a =
     let s = a.before.before in
-    rw (a.before.sum_of.ensures, sum_back s.args.rates.now s.requires.0 (s.args.day - 1) (omega arith)) at a.Sized-of.ensures
+    rw (a.before.sum_of.ensures, sum_back s.args.rates s.requires.0 (s.args.day - 1) (omega arith)) at a.Sized-of.ensures
 
 bound : (a : tie.After-sized-of) → a.Sized-of.result.size ≤ 28000
 bound a =
     let s = a.before.before in
-    let z = sum_of s.args.rates.now (s.args.day - 1) in
-    omega (arith, ap (λ (x : Amount). x.size) (sum_is a), sized z, sum_small s.args.rates.now s.requires.0 (s.args.day - 1) (omega arith))
+    let z = sum_of s.args.rates (s.args.day - 1) in
+    omega (arith, ap (λ (x : Amount). x.size) (sum_is a), sized z, sum_small s.args.rates s.requires.0 (s.args.day - 1))
 
 sub-k : tie.Need-overflow-sub-k
 sub-k c = search rules

@@ -6,15 +6,15 @@ use mir.Syntax.{w64}
 use mir.Val.{of_z}
 use Rattle.anomaly.specs.Rates.{sum_of}
 use Rattle.anomaly.proofs.Whole.{fits, back}
-use Rattle.anomaly.proofs.Sums.{days, sum_small, sum_bits}
+use Rattle.anomaly.proofs.Sums.{sum_small, sum_bits}
 use Rattle.anomaly.proofs.amounts.sum_of.Statement.{statement}
 use Rattle.anomaly.proofs.amounts.sum_of.Tie as tie
 
 abbrev invariant-loop : tie.invariant-loop
-invariant-loop rates k s₀ i₀ s i = (i ≤ k) × (s ≡ of_z w64 (sum_of rates i))
+invariant-loop k rates s₀ i₀ s i = (i ≤ k) × (s ≡ of_z w64 (sum_of rates i))
 
 abbrev decreases-loop : tie.decreases-loop
-decreases-loop rates k s₀ i₀ s i = k - i
+decreases-loop k rates s₀ i₀ s i = k - i
 
 loop-holds : tie.Need-loop-init invariant-loop decreases-loop
 unfolding sum_of
@@ -23,16 +23,14 @@ loop-holds c = (omega arith, refl)
 mul-sum : tie.Need-overflow-mul-sum invariant-loop decreases-loop
 mul-sum c = omega arith
 
-shared-slice-copy-out-sum : tie.Need-shared-slice-copy-out-sum invariant-loop decreases-loop
-shared-slice-copy-out-sum c =
-    let a = c.before.before in
-    omega (arith, days a.args.rates.now a.requires.0)
+array-copy-out-sum : tie.Need-array-copy-out-sum invariant-loop decreases-loop
+array-copy-out-sum c = omega arith
 
 add-sum : tie.Need-overflow-add-sum invariant-loop decreases-loop
 add-sum c =
     let a = c.before.before.before in
-    rw (c.before.before.loop.invariant.1, sum_bits a.args.rates.now a.requires.0 c.before.before.loop.i (omega arith))
-    (fits _ (omega (arith, sum_small a.args.rates.now a.requires.0 (c.before.before.loop.i + 1) (omega arith))))
+    rw (c.before.before.loop.invariant.1, sum_bits a.args.t1 a.requires.0 c.before.before.loop.i (omega arith))
+    (fits _ (omega (arith, sum_small a.args.t1 a.requires.0 (c.before.before.loop.i + 1))))
 
 add-i : tie.Need-overflow-add-i invariant-loop decreases-loop
 add-i c = omega arith
@@ -43,13 +41,13 @@ loop-less c = omega arith
 loop-again : tie.Need-loop-preserved invariant-loop decreases-loop
 loop-again c =
     let a = c.before.before.before in
-    (omega arith, rw (c.before.before.loop.invariant.1, sum_bits a.args.rates.now a.requires.0 c.before.before.loop.i (omega arith)))
+    (omega arith, rw (c.before.before.loop.invariant.1, sum_bits a.args.t1 a.requires.0 c.before.before.loop.i (omega arith)))
 
 returns : tie.Need-returns invariant-loop decreases-loop
 returns c =
     let a = c.before.before in
     let e : c.before.loop.i ≡ a.args.k = omega arith in
-    rw (c.before.loop.invariant.1, e) (back _ (omega (arith, sum_small a.args.rates.now a.requires.0 a.args.k a.requires.1)))
+    rw (c.before.loop.invariant.1, e) (back _ (omega (arith, sum_small a.args.t1 a.requires.0 a.args.k)))
 
 pub sum_of_spec : {M : Type 1} → statement M
 sum_of_spec =
@@ -59,7 +57,7 @@ sum_of_spec =
     decreases-loop
     loop-holds
     mul-sum
-    shared-slice-copy-out-sum
+    array-copy-out-sum
     add-sum
     add-i
     loop-less
