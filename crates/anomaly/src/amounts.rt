@@ -7,7 +7,7 @@ use units::Xinghe;
 use walking::Sign;
 
 // A signed amount by its sign and its size.
-#[derive(Drop)]
+#[derive(Clone, Copy)]
 pub struct Amount {
     pub minus: bool,
     pub size: u64,

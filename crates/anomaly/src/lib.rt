@@ -1,5 +1,6 @@
 // The moon's anomaly and its correction, of a lunation alone. Instants and rests come in halves of a part over N, so that the full moon's
 // are whole numbers.
+#![tactic(auto)]
 ghost use Rattle.std.specs.Prelude.{◌≡◌, ◌+◌, ◌*◌, ◌<◌};
 ghost use Rattle.units.specs.Xinghe.{P, T, round_months};
 ghost use Rattle.anomaly.specs.Rates.{printed};
@@ -13,7 +14,7 @@ use units::remainder::{DayCarry, DayRemainder};
 pub mod amounts;
 
 // The day of the anomaly (入曆日), 1 to 28, and its rest over N with the half of a part beside it.
-#[derive(Drop)]
+#[derive(Clone, Copy)]
 pub struct Anomaly {
     pub day: u64,
     pub rest: DayRemainder,
@@ -21,7 +22,7 @@ pub struct Anomaly {
 }
 
 // A phase's anomaly and correction (盈縮定積分), and its day and remainder after it.
-#[derive(Drop)]
+#[derive(Clone, Copy)]
 pub struct Corrected {
     pub anomaly: Anomaly,
     pub correction: i64,
@@ -31,7 +32,7 @@ pub struct Corrected {
 }
 
 // A month's new moon and full moon, corrected.
-#[derive(Drop)]
+#[derive(Clone, Copy)]
 pub struct Corrections {
     pub new: Corrected,
     pub full: Corrected,

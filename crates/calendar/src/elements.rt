@@ -7,7 +7,7 @@ use moon::NewMoon;
 use node::passages::Passage;
 
 // A new moon's day and small remainder, where it stands to the nodes, and how far it is in the round of the anomaly.
-#[derive(Drop)]
+#[derive(Clone, Copy)]
 pub struct Elements {
     pub moon: NewMoon,
     pub passage: Passage,

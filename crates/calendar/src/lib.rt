@@ -1,5 +1,6 @@
 // The Xinghe calendar: year heads, month rows, and dates and day numbers, for every input.
 // A year is written from 1; a place is a month's index in its year, from 0; a day number is counted from the origin, from 0.
+#![tactic(auto)]
 use node::Side;
 use refusal::Refusal;
 use sun::Solstice;
@@ -13,7 +14,7 @@ pub mod heads;
 pub mod rows;
 
 // A year: the months before it, the leap remainder (閏餘) of its chapter, its month count, its leap place (0 for none) and its winter solstice.
-#[derive(Drop)]
+#[derive(Clone, Copy)]
 pub struct YearHead {
     pub before: u64,
     pub remainder: u64,
@@ -22,7 +23,7 @@ pub struct YearHead {
     pub solstice: Solstice,
 }
 
-#[derive(Drop)]
+#[derive(Clone, Copy)]
 pub enum HeadAnswer {
     Answered(YearHead),
     Refused(Refusal),
@@ -31,7 +32,7 @@ pub enum HeadAnswer {
 // A month: its number in the round (積月), its year and place, its month number (11 at place 0), whether it is the leap month (閏月), its
 // first day with the small remainder (小餘) of its new moon, and its length; and of that new moon the degrees since the last node (交) and
 // their remainder (the residue), the side of the road (表裏), and the day of the anomaly (入曆日) and its rest.
-#[derive(Drop)]
+#[derive(Clone, Copy)]
 pub struct MonthRow {
     pub lunation: u64,
     pub year: u64,
@@ -48,7 +49,7 @@ pub struct MonthRow {
     pub rest: DayRemainder,
 }
 
-#[derive(Drop)]
+#[derive(Clone, Copy)]
 pub enum RowAnswer {
     Answered(MonthRow),
     Refused(Refusal),

@@ -1,4 +1,5 @@
 // The cases: full answers for chosen years, then refusals and edges, of the calendar and then of the Zhengguang and the Linde calendar, in the lines that the independent second program writes.
+#![tactic(auto)]
 mod edges;
 mod fields;
 mod linde_edges;

@@ -13,7 +13,7 @@ pub const BUFFER: usize = 2048;
 pub const WHOLE: usize = BUFFER;
 
 // What the writer answered, and the buffer afterwards.
-#[derive(Drop)]
+#[derive(Clone, Copy)]
 struct Writing {
     answer: WriteAnswer,
     buffer: [u8; BUFFER],

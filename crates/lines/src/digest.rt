@@ -1,7 +1,7 @@
 // A digest: two running sums over every number that it is fed, in order.
 
 // Each sum stays below its modulus, which is below 2^32. Held as u32 it needs no bound to be stated.
-#[derive(Drop)]
+#[derive(Clone, Copy)]
 pub struct Digest {
     pub h1: u32,
     pub h2: u32,

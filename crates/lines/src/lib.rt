@@ -1,4 +1,5 @@
 // Lines of output for the programs cases and survey, and digests of what they are about. A line is built by value and written by one system call, since a call for each number would take most of the run.
+#![tactic(auto)]
 use refusal::Refusal;
 use walking::Sign;
 
@@ -7,7 +8,7 @@ pub mod digest;
 // Room for the longest line, which has 276 bytes, and its end. What does not fit is left out, so that building a line asks nothing of its caller.
 const ROOM: usize = 288;
 
-#[derive(Drop)]
+#[derive(Clone, Copy)]
 pub struct Line {
     pub bytes: [u8; ROOM],
     pub len: usize,

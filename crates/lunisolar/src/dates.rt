@@ -13,27 +13,27 @@ use crate::{Constants, LunationAnswer};
 use refusal::Refusal;
 
 // A day: its number, and its day of the sixty, from 1.
-#[derive(Drop)]
+#[derive(Clone, Copy)]
 pub struct Day {
     pub number: u64,
     pub sexagenary: u64,
 }
 
-#[derive(Drop)]
+#[derive(Clone, Copy)]
 pub enum DayAnswer {
     Answered(Day),
     Refused(Refusal),
 }
 
 // A date: a year, a place and a day of the month, from 1.
-#[derive(Drop)]
+#[derive(Clone, Copy)]
 pub struct Date {
     pub year: u64,
     pub place: u64,
     pub day: u64,
 }
 
-#[derive(Drop)]
+#[derive(Clone, Copy)]
 pub enum DateAnswer {
     Answered(Date),
     Refused(Refusal),

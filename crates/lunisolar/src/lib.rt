@@ -1,5 +1,7 @@
 // Any calendar of mean months and middle terms: the arithmetic, once, over the calendar's constants.
 // Years are counted from 0, but where they are taken or given as the calendar writes them; months from 0 over the whole calendar.
+#![tactic(auto)]
+
 ghost use Rattle.std.specs.Prelude.{◌≡◌, ◌<◌, ltb};
 ghost use Rattle.reckoning.specs.Rule.{month_count};
 ghost use Rattle.lunisolar.specs.Calendars.{Sound, rule_of, year_at, lunation_for, lunation_at};
@@ -14,7 +16,7 @@ pub mod rule;
 pub mod sixty;
 
 // A year is year/degree days and a month month/day days.
-#[derive(Drop)]
+#[derive(Clone, Copy)]
 pub struct Constants {
     pub year: u64,
     // the degree divisor (度法, 蔀法)
@@ -30,14 +32,14 @@ pub struct Constants {
 }
 
 // How many years are past before a year as it is written.
-#[derive(Drop)]
+#[derive(Clone, Copy)]
 pub enum YearAnswer {
     Past(u64),
     Refused(Refusal),
 }
 
 // The month of the calendar at a place of a year.
-#[derive(Drop)]
+#[derive(Clone, Copy)]
 pub enum LunationAnswer {
     Lunation(u64),
     Refused(Refusal),

@@ -10,7 +10,7 @@ use crate::Constants;
 use crate::means::term_from;
 
 // A year as it is written, a place, a month number (11 at place 0) and the leap mark.
-#[derive(Drop)]
+#[derive(Clone, Copy)]
 pub struct MonthName {
     pub year: u64,
     pub place: u64,

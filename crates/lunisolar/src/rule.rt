@@ -73,7 +73,7 @@ fn leap_beside(k: Constants, y: u64, before: u64, near: u64) -> u64
 }
 
 // What a year has of its months: those before it, how many it has, and the place of the leap month (0 for none).
-#[derive(Drop)]
+#[derive(Clone, Copy)]
 pub struct YearMonths {
     pub before: u64,
     pub count: u64,

@@ -6,26 +6,26 @@ ghost use Rattle.mean_calendar.specs.Parts.{over_day, over_degree};
 use lunisolar::Constants;
 
 // A remainder over the day divisor (日法).
-#[derive(Drop)]
+#[derive(Clone, Copy)]
 pub struct DayParts {
     pub parts: u64,
 }
 
 // A remainder over the degree divisor (度法, 蔀法).
-#[derive(Drop)]
+#[derive(Clone, Copy)]
 pub struct DegreeParts {
     pub parts: u64,
 }
 
 // Whole days or degrees, and what is left over the day divisor.
-#[derive(Drop)]
+#[derive(Clone, Copy)]
 pub struct DayShare {
     pub whole: u64,
     pub rest: DayParts,
 }
 
 // Whole days, and what is left over the degree divisor.
-#[derive(Drop)]
+#[derive(Clone, Copy)]
 pub struct DegreeShare {
     pub whole: u64,
     pub rest: DegreeParts,

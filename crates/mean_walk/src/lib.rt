@@ -1,4 +1,5 @@
 // A walk in any calendar: a month carried by each of a list of signed counts in turn.
+#![tactic(auto)]
 ghost use Rattle.std.specs.Prelude.{◌≡◌};
 ghost use Rattle.lunisolar.specs.Calendars.{Sound};
 ghost use Rattle.mean_calendar.specs.Carries.{genuine_fields};
@@ -10,7 +11,7 @@ use mean_calendar::carries::MonthFields;
 use refusal::Refusal;
 
 // Where a walk ends, the sum of the answered counts, and how many were answered.
-#[derive(Drop)]
+#[derive(Clone, Copy)]
 pub struct MeanWalk {
     pub month: MeanMonth,
     pub sum: i64,
@@ -31,7 +32,7 @@ impl MeanWalk {
 }
 
 // A refused carry is no refusal of the walk: only a month that is not genuine is.
-#[derive(Drop)]
+#[derive(Clone, Copy)]
 pub enum MeanWalkAnswer {
     Answered(MeanWalk),
     Refused(Refusal),

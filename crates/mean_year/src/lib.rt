@@ -1,4 +1,5 @@
 // A whole year of any calendar by value. Its head is worked out once and serves all its months.
+#![tactic(auto)]
 ghost use Rattle.std.specs.Prelude.{◌≡◌, map, length};
 ghost use Rattle.lunisolar.specs.Calendars.{Sound};
 ghost use Rattle.mean_calendar.specs.Heads.{year_head};
@@ -13,7 +14,7 @@ use mean_calendar::{MeanHeadAnswer, MeanMonth};
 pub const PLACES: usize = 13;
 
 // Its head, or why it is refused, and its months by place, with zeros past them.
-#[derive(Drop)]
+#[derive(Clone, Copy)]
 pub struct MeanYear {
     pub head: MeanHeadAnswer,
     pub months: [MeanMonth; PLACES],

@@ -1,4 +1,5 @@
 // Reads a scratched volume from standard input, mends it, and prints the indices of the damaged blocks, their number and the mended volume.
+#![tactic(auto)]
 ghost use Rattle.std.specs.Prelude.{◌≤◌, length};
 
 use blocks::BLOCK;

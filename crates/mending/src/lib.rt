@@ -1,4 +1,5 @@
 // A scratched volume mended in place: the first year from its sound blocks, and each block that differs from what it calls for written afresh.
+#![tactic(auto)]
 ghost use Rattle.std.specs.Prelude.{◌≡◌, ◌&&◌, ◌||◌, not, ◌++◌, ◌+◌, ◌-◌, ◌*◌, ◌≤◌, ◌<◌, T, eqb, length, set, drop};
 ghost use Rattle.reckoning.specs.Search.{pick, any, all, first_from};
 ghost use Rattle.units.specs.Xinghe.{round_years};
@@ -14,7 +15,7 @@ use refusal::Refusal;
 pub const MOST_BLOCKS: usize = 1024;
 
 // How many blocks were written afresh.
-#[derive(Drop)]
+#[derive(Clone, Copy)]
 pub enum MendAnswer {
     Mended(u64),
     Refused(Refusal),

@@ -1,4 +1,5 @@
 // What the mending program prints: the lines into a lent buffer, the volume where it was read.
+#![tactic(auto)]
 ghost use Rattle.std.specs.Prelude.{◌≡◌, ◌*◌, ◌≤◌, length};
 ghost use Rattle.writing.specs.Written.{Wrote, after_text, texts};
 ghost use Rattle.mending.specs.Mended.{after_mend};
@@ -14,7 +15,7 @@ const LINE: usize = 21;
 pub const LINES: usize = LINE * (MOST_BLOCKS + 1);
 
 // How many bytes of the lines are to be printed, and then how many of the volume.
-#[derive(Drop)]
+#[derive(Clone, Copy)]
 pub struct Report {
     pub text: usize,
     pub volume: usize,

@@ -1,4 +1,5 @@
 // Functions of the lunation alone: lunations are counted from 0 at the origin.
+#![tactic(auto)]
 ghost use Rattle.std.specs.Prelude.{◌≡◌, ◌<◌};
 ghost use Rattle.units.specs.Xinghe.{N};
 ghost use Rattle.moon.specs.NewMoons.{new_moon_of, length_of, monthly_addition};
@@ -9,7 +10,7 @@ use units::remainder::DayRemainder;
 pub mod phases;
 
 // The mean new moon: its day and small remainder.
-#[derive(Drop)]
+#[derive(Clone, Copy)]
 pub struct NewMoon {
     pub day: u64,
     pub remainder: DayRemainder,

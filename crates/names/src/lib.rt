@@ -1,4 +1,5 @@
 // Day names: the label of a day of the sixty, as a part of one of two lent lists of names.
+#![tactic(auto)]
 ghost use Rattle.std.specs.Prelude.{◌≡◌};
 ghost use Rattle.names.specs.Names.{bytes_of, whose_number, location_for, location_number, label_number, label_of};
 
@@ -12,20 +13,20 @@ const NAME: usize = 6;
 const LIST: usize = lunisolar::sixty::SIXTY as usize * NAME;
 
 // Whose list of names.
-#[derive(Drop)]
+#[derive(Clone, Copy)]
 pub enum Whose {
     Theirs,
     House,
 }
 
 // Where a name is found: in whose list, and from which byte on.
-#[derive(Drop)]
+#[derive(Clone, Copy)]
 pub struct NameLocation {
     pub whose: Whose,
     pub from: usize,
 }
 
-#[derive(Drop)]
+#[derive(Clone, Copy)]
 pub enum LocationAnswer {
     Answered(NameLocation),
     Refused(Refusal),

@@ -1,5 +1,6 @@
 // The moon's node: the distance since the last node, the side of the road, and eclipses, of a lunation alone.
 // Distances come in halves of a part over N, so that the full moon's are whole numbers.
+#![tactic(auto)]
 ghost use Rattle.std.specs.Prelude.{◌≡◌, ◌*◌, ◌<◌};
 ghost use Rattle.units.specs.Xinghe.{N, M, round_months};
 ghost use Rattle.node.specs.Eclipses.{distance_of, eclipse_at, eclipse_of, node_at};
@@ -13,7 +14,7 @@ pub mod marks;
 pub mod passages;
 
 // Which side of the road the moon stands on (表裏).
-#[derive(Drop)]
+#[derive(Clone, Copy)]
 pub enum Side {
     AtNode,
     Outside,
@@ -34,7 +35,7 @@ impl Side {
 }
 
 // A distance in degrees, with its remainder over N and the half of a part beside it.
-#[derive(Drop)]
+#[derive(Clone, Copy)]
 pub struct Distance {
     pub degrees: u64,
     pub remainder: DayRemainder,
@@ -42,7 +43,7 @@ pub struct Distance {
 }
 
 // Whether an eclipse is marked, its distance from the node and its size; zero where none is.
-#[derive(Drop)]
+#[derive(Clone, Copy)]
 pub struct Eclipse {
     pub marked: bool,
     pub distance: Distance,
@@ -50,14 +51,14 @@ pub struct Eclipse {
 }
 
 // The distance since the last node (交), and the eclipse there.
-#[derive(Drop)]
+#[derive(Clone, Copy)]
 pub struct Node {
     pub distance: Distance,
     pub eclipse: Eclipse,
 }
 
 // A month's new moon, with its side, and its full moon.
-#[derive(Drop)]
+#[derive(Clone, Copy)]
 pub struct Nodes {
     pub new: Node,
     pub side: Side,

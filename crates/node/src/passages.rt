@@ -9,7 +9,7 @@ use crate::{Distance, Side};
 use units::Xinghe;
 
 // The parts since the last node, and the nodes passed since the origin. The parts, below M, are held in 32 bits, in which a division is shorter.
-#[derive(Drop)]
+#[derive(Clone, Copy)]
 pub struct Passage {
     pub since: u32,
     pub nodes: u64,

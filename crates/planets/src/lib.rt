@@ -1,4 +1,5 @@
 // The five planets: their conjunctions with the sun, of a year and the one after it, and the stages between two conjunctions.
+#![tactic(auto)]
 ghost use Rattle.std.specs.Prelude.{◌≡◌, ◌<◌};
 ghost use Rattle.planets.specs.Jobs.{conjunctions_in, conjunctions_at, stages_at};
 
@@ -13,7 +14,7 @@ pub mod synodic;
 pub mod table;
 
 // Morning (晨) or evening (夕), of a conjunction or a stage; neither, where the treatise names none.
-#[derive(Drop)]
+#[derive(Clone, Copy)]
 pub enum Apparition {
     Neither,
     Morning,
@@ -21,7 +22,7 @@ pub enum Apparition {
 }
 
 // A conjunction (合): the time from the year's solstice and from the origin, each in days and a remainder over D.
-#[derive(Drop)]
+#[derive(Clone, Copy)]
 pub struct Conjunction {
     pub time: DegreeCarry,
     pub since: DegreeCarry,
@@ -29,20 +30,20 @@ pub struct Conjunction {
 }
 
 // The next conjunction after a year's solstice, and the one after it.
-#[derive(Drop)]
+#[derive(Clone, Copy)]
 pub struct TwoConjunctions {
     pub first: Conjunction,
     pub second: Conjunction,
 }
 
-#[derive(Drop)]
+#[derive(Clone, Copy)]
 pub enum ConjunctionsAnswer {
     Answered(TwoConjunctions),
     Refused(Refusal),
 }
 
 // What a planet does during a stage; a place of the list that no stage takes is unused.
-#[derive(Drop)]
+#[derive(Clone, Copy)]
 pub enum StageKind {
     Unused,
     Hidden,
@@ -53,7 +54,7 @@ pub enum StageKind {
 
 // A stage: its days and its degrees (negative where the planet goes back), each with a remainder over D; the daily motion in whole degrees
 // and a fraction, all 0 where none is printed; and whether the print says morning or evening.
-#[derive(Drop)]
+#[derive(Clone, Copy)]
 pub struct Stage {
     pub days: u64,
     pub remainder: DegreeRemainder,
@@ -66,14 +67,14 @@ pub struct Stage {
     pub apparition: Apparition,
 }
 
-#[derive(Drop)]
+#[derive(Clone, Copy)]
 pub enum StageCount {
     Answered(u64),
     Refused(Refusal),
 }
 
 // An enum can't hold an array, so the stages stand beside their count: in print order, zero from the count on.
-#[derive(Drop)]
+#[derive(Clone, Copy)]
 pub struct StagesAnswer {
     pub count: StageCount,
     pub stages: [Stage; 14],

@@ -11,7 +11,7 @@ use units::Xinghe;
 use units::remainder::DegreeRemainder;
 
 // A planet by its number (數): the parts from a conjunction to the next of the same kind, and whether half of them brings one already.
-#[derive(Drop)]
+#[derive(Clone, Copy)]
 pub struct Planet {
     pub period: u64,
     pub halved: bool,
@@ -60,7 +60,7 @@ pub fn planet_of(planet: u64) -> Planet
 }
 
 // A conjunction in parts: since the origin, and since the year's solstice.
-#[derive(Drop)]
+#[derive(Clone, Copy)]
 pub struct ConjunctionParts {
     pub instant: u64,
     pub time: u64,

@@ -1,8 +1,10 @@
 // Why a job refuses, and the number that it returns then (01, "Numbers returned"; 02).
+#![tactic(auto)]
+
 ghost use Rattle.std.specs.Prelude.{◌≡◌};
 ghost use Rattle.refusal.specs.Numbers.{number_of};
 
-#[derive(Drop)]
+#[derive(Clone, Copy)]
 pub enum Refusal {
     // a year outside the calendar's years
     Year,

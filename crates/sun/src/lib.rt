@@ -1,4 +1,5 @@
 // Functions of the year alone: years are counted from 0 at the origin.
+#![tactic(auto)]
 ghost use Rattle.std.specs.Prelude.{◌≡◌, ◌≤◌, ◌<◌};
 ghost use Rattle.sun.specs.Solstices.{solstice_of};
 ghost use Rattle.sun.specs.Points.{point_of};
@@ -7,7 +8,7 @@ use units::Xinghe;
 use units::remainder::DegreeRemainder;
 
 // The winter solstice: its day and remainder over D.
-#[derive(Drop)]
+#[derive(Clone, Copy)]
 pub struct Solstice {
     pub day: u64,
     pub remainder: DegreeRemainder,
@@ -26,7 +27,7 @@ pub fn winter_solstice(y: u64) -> Solstice
 }
 
 // A point of a cut of the year: its day, its remainder over D, and the rest of a part over the cut.
-#[derive(Drop)]
+#[derive(Clone, Copy)]
 pub struct Point {
     pub day: u64,
     pub remainder: DegreeRemainder,

@@ -8,7 +8,7 @@ use lines::digest::Digest;
 use mean_calendar::{MeanHead, MeanMonth};
 
 // What is known of the years asked so far.
-#[derive(Drop)]
+#[derive(Clone, Copy)]
 pub struct CalendarSurvey {
     pub counts: MonthCounts,
     pub digest: Digest,

@@ -8,7 +8,7 @@ use mean_calendar::{MeanHead, MeanMonth, MeanPoint};
 use zhengguang::{MonthNodes, NodeDistance, Zhengguang, ZhengguangHead, ZhengguangRow};
 
 // Which of them is asked, so that the loops over years, months, days and cuts are written once.
-#[derive(Drop)]
+#[derive(Clone, Copy)]
 pub enum Calendar {
     Zhengguang,
     Linde,

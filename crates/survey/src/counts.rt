@@ -5,7 +5,7 @@ use lines::Line;
 use node::Nodes;
 
 // What is counted in every calendar.
-#[derive(Drop)]
+#[derive(Clone, Copy)]
 pub struct MonthCounts {
     pub months: u64,
     pub long: u64,
@@ -14,7 +14,7 @@ pub struct MonthCounts {
 }
 
 // In an era, or in the round, also the eclipses marked at new moons and at full moons.
-#[derive(Drop)]
+#[derive(Clone, Copy)]
 pub struct Counts {
     pub months: MonthCounts,
     pub new_moons: u64,

@@ -1,5 +1,6 @@
 // The survey: counts and a digest over every number that the calendar answers, for each era and for the round, and then for the Zhengguang and
 // the Linde calendar, in the lines that the independent second program writes.
+#![tactic(auto)]
 mod calendar_years;
 mod calendars;
 mod counts;

@@ -10,7 +10,7 @@ use lines::digest::Digest;
 pub const ERA_YEARS: u64 = 168600;
 
 // What is known of the years asked so far.
-#[derive(Drop)]
+#[derive(Clone, Copy)]
 pub struct Survey {
     pub counts: Counts,
     pub digest: Digest,

@@ -1,4 +1,5 @@
 // Leap months and marked eclipses of a run of years.
+#![tactic(auto)]
 ghost use Rattle.std.specs.Prelude.{◌≡◌, ◌+◌, ◌-◌, ◌≤◌};
 ghost use Rattle.units.specs.Xinghe.{rule, round_years};
 ghost use Rattle.calendar.specs.Heads.{year_head};
@@ -7,7 +8,7 @@ ghost use Rattle.totals.specs.Totals.{totals};
 
 use calendar::YearHead;
 
-#[derive(Drop)]
+#[derive(Clone, Copy)]
 pub struct Totals {
     pub leaps: u64,
     pub news: u64,

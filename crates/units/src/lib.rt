@@ -1,4 +1,5 @@
 // The Xinghe calendar's numbers, by name, its printed chapter, and its units: remainders over N and over D.
+#![tactic(auto)]
 ghost use Rattle.std.specs.Prelude.{◌≡◌, ◌≤◌, ◌<◌};
 ghost use Rattle.reckoning.specs.Rule.{year_of};
 ghost use Rattle.reckoning.specs.Means.{new_moon};
@@ -13,7 +14,7 @@ pub mod chapter;
 mod entries;
 pub mod remainder;
 
-#[derive(Drop)]
+#[derive(Clone, Copy)]
 pub struct Xinghe;
 
 impl Xinghe {

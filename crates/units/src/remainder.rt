@@ -5,26 +5,26 @@ ghost use Rattle.units.specs.Units.{day_carry, degree_carry};
 use crate::Xinghe;
 
 // A remainder over the day divisor, 208,530 (小餘 over 日法).
-#[derive(Drop)]
+#[derive(Clone, Copy)]
 pub struct DayRemainder {
     pub parts: u64,
 }
 
 // A remainder over the degree divisor, 16,860 (小餘 over 蔀法).
-#[derive(Drop)]
+#[derive(Clone, Copy)]
 pub struct DegreeRemainder {
     pub parts: u64,
 }
 
 // Whole days or degrees, and what is left over N.
-#[derive(Drop)]
+#[derive(Clone, Copy)]
 pub struct DayCarry {
     pub whole: u64,
     pub remainder: DayRemainder,
 }
 
 // Whole days, and what is left over D.
-#[derive(Drop)]
+#[derive(Clone, Copy)]
 pub struct DegreeCarry {
     pub whole: u64,
     pub remainder: DegreeRemainder,

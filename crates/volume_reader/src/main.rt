@@ -1,4 +1,5 @@
 // Reads a volume from standard input and prints its first and its last year.
+#![tactic(auto)]
 use blocks::BLOCK;
 use libc::{STDIN_FILENO, STDOUT_FILENO};
 use volumes::reader::{ReadAnswer, Reader};

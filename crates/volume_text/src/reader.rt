@@ -6,7 +6,7 @@ ghost use Rattle.volume_text.specs.Lines.{span_read, span_fed, span_settled};
 use volumes::writer::SpanAnswer;
 use year_text::reader::Reader;
 
-#[derive(Drop)]
+#[derive(Clone, Copy)]
 pub struct SpanReader {
     // a blank has come
     pub blank: bool,

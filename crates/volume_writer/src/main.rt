@@ -1,4 +1,5 @@
 // Reads one line with a first and a last year from standard input and writes the volume of these years, both included, block by block.
+#![tactic(auto)]
 ghost use Rattle.std.specs.Prelude.{◌+◌, ◌≤◌};
 ghost use Rattle.units.specs.Xinghe.{round_years};
 

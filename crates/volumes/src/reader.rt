@@ -10,7 +10,7 @@ use refusal::Refusal;
 use units::Xinghe;
 
 // The first year and the last.
-#[derive(Drop)]
+#[derive(Clone, Copy)]
 pub enum ReadAnswer {
     Years(u64, u64),
     Refused(Refusal),
@@ -38,7 +38,7 @@ impl ReadAnswer {
 }
 
 // What the blocks so far are: none; the writer's, from a first year to a last; or not the writer's.
-#[derive(Drop)]
+#[derive(Clone, Copy)]
 pub enum Reader {
     Empty,
     Right(u64, u64),

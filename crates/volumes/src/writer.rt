@@ -11,14 +11,14 @@ use refusal::Refusal;
 const BYTES: u64 = BLOCK as u64;
 
 // How many years a span has.
-#[derive(Drop)]
+#[derive(Clone, Copy)]
 pub enum SpanAnswer {
     Years(u64),
     Refused(Refusal),
 }
 
 // How many bytes were written.
-#[derive(Drop)]
+#[derive(Clone, Copy)]
 pub enum WriteAnswer {
     Written(u64),
     Refused(Refusal),

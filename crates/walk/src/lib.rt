@@ -1,4 +1,5 @@
 // A walk: a row carried by each of a list of signed counts in turn.
+#![tactic(auto)]
 ghost use Rattle.std.specs.Prelude.{◌≡◌};
 ghost use Rattle.walk.specs.Walked.{walk_answer, walk_answer_fields, walk_number, walk_values, zero_walk};
 
@@ -8,7 +9,7 @@ use refusal::Refusal;
 use units::Xinghe;
 
 // Where a walk ends, the sum of the answered counts, and how many were answered.
-#[derive(Drop)]
+#[derive(Clone, Copy)]
 pub struct Walked {
     pub row: MonthRow,
     pub sum: i64,
@@ -29,7 +30,7 @@ impl Walked {
 }
 
 // A refused carry is no refusal of the walk: only a row that is not genuine is.
-#[derive(Drop)]
+#[derive(Clone, Copy)]
 pub enum WalkAnswer {
     Answered(Walked),
     Refused(Refusal),

@@ -1,4 +1,6 @@
 // Months of a round and signed counts, over any size of the round. specs/Walk.antt has the carry and the walk over any row.
+#![tactic(auto)]
+
 ghost use Rattle.std.specs.Prelude.{◌≡◌, ◌-◌, ◌<◌, ◌≤◌, true, pos, ◌+ℤ◌, ◌-ℤ◌};
 ghost use Rattle.walking.specs.Signed.{sign_of, bits_of, target_of, landing_of};
 ghost use Rattle.walking.specs.Paper.{steps_of, arrival_of};
@@ -8,7 +10,7 @@ use refusal::Refusal;
 pub mod fields;
 
 // A whole number by its sign: Up(n) is n and Down(n) is -(n + 1), so that every i64 has its side and none overflows.
-#[derive(Drop)]
+#[derive(Clone, Copy)]
 pub enum Sign {
     Up(u64),
     Down(u64),
@@ -25,7 +27,7 @@ pub fn sign_of(count: i64) -> Sign
 }
 
 // Where a count leads: to a month of the round, or outside.
-#[derive(Drop)]
+#[derive(Clone, Copy)]
 pub enum Target {
     Month(u64),
     Outside,
@@ -56,7 +58,7 @@ pub fn reach(size: u64, month: u64, count: i64) -> Target
 }
 
 // What a carry comes to: a month of the round, or why it is refused.
-#[derive(Drop)]
+#[derive(Clone, Copy)]
 pub enum Landing {
     Month(u64),
     Refused(Refusal),
@@ -90,7 +92,7 @@ pub fn difference(to: u64, from: u64) -> i64
 }
 
 // The month in which a walk ends that keeps only the month, and how many of the counts were answered.
-#[derive(Drop)]
+#[derive(Clone, Copy)]
 pub struct Steps {
     pub month: u64,
     pub answered: usize,
@@ -119,7 +121,7 @@ pub fn walk_months(size: u64, from: u64, counts: &[i64]) -> Steps
 }
 
 // Where a walk comes to: a month, how far that is from the first, and how many of the counts were answered.
-#[derive(Drop)]
+#[derive(Clone, Copy)]
 pub struct Arrival {
     pub month: u64,
     pub sum: i64,

@@ -1,4 +1,5 @@
 // A whole year's rows: in a lent list, or by value. The year's head is worked out once and serves all its rows.
+#![tactic(auto)]
 ghost use Rattle.std.specs.Prelude.{◌≡◌, ◌+◌, ◌≤◌, ◌<◌, length};
 ghost use Rattle.units.specs.Xinghe.{round_months};
 ghost use Rattle.calendar.specs.Elements.{elements_of};
@@ -11,7 +12,7 @@ use calendar::{HeadAnswer, MonthRow};
 use refusal::Refusal;
 
 // How many rows were written.
-#[derive(Drop)]
+#[derive(Clone, Copy)]
 pub enum FillAnswer {
     Filled(u64),
     Refused(Refusal),
@@ -135,7 +136,7 @@ pub fn fill_front(rows: [MonthRow; 13], have: usize, year: u64) -> [MonthRow; 13
 }
 
 // A year by value: its head, or why it is refused, and its rows by place, with zeros past them.
-#[derive(Drop)]
+#[derive(Clone, Copy)]
 pub struct YearRows {
     pub head: HeadAnswer,
     pub rows: [MonthRow; 13],

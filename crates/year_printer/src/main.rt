@@ -1,8 +1,9 @@
 // Reads one line with a year from standard input and prints the year.
+#![tactic(auto)]
 use libc::{STDIN_FILENO, STDOUT_FILENO};
 use year_text::reader::{Reader, Step};
 
-#[derive(Drop)]
+#[derive(Clone, Copy)]
 enum Input {
     Byte(u8),
     End,

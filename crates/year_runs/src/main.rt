@@ -1,4 +1,5 @@
 // The year printer's answers to inputs at the edges, one after the other, over the proved library.
+#![tactic(auto)]
 use libc::STDOUT_FILENO;
 
 fn run(input: &[u8]) {

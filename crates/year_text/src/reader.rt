@@ -7,7 +7,7 @@ use units::Xinghe;
 // One past every year of the round, which stands for all that are past it.
 const PAST_ROUND: u64 = Xinghe::YEARS + 1;
 
-#[derive(Drop)]
+#[derive(Clone, Copy)]
 pub struct Reader {
     // every byte so far was a digit
     pub valid: bool,
@@ -16,7 +16,7 @@ pub struct Reader {
 }
 
 // What a byte more makes of a line: the year that it asks for, where it ends or is settled, or a reader of the next byte.
-#[derive(Drop)]
+#[derive(Clone, Copy)]
 pub enum Step {
     Year(u64),
     More(Reader),

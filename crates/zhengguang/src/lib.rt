@@ -1,5 +1,6 @@
 // The Zhengguang calendar (正光曆, Wei, 520): every job of any calendar at its constants, with the leap remainder of its chapter in the head and the
 // distance since the node in the row. Years run from 1, inclusively; the year Xiaochang 3 is 167,756.
+#![tactic(auto)]
 ghost use Rattle.std.specs.Prelude.{◌≡◌};
 ghost use Rattle.lunisolar.specs.Calendars.{Sound};
 ghost use Rattle.lunisolar.specs.Dates.{day_of_date, date_of_day};
@@ -21,34 +22,34 @@ pub mod walks;
 pub mod years;
 
 // A year: any calendar's head, and the leap remainder (閏餘) of its chapter.
-#[derive(Drop)]
+#[derive(Clone, Copy)]
 pub struct ZhengguangHead {
     pub mean: MeanHead,
     pub remainder: u64,
 }
 
-#[derive(Drop)]
+#[derive(Clone, Copy)]
 pub enum ZhengguangHeadAnswer {
     Answered(ZhengguangHead),
     Refused(Refusal),
 }
 
 // A month: any calendar's, and the degrees since the last node (交) at its new moon with their remainder (the residue).
-#[derive(Drop)]
+#[derive(Clone, Copy)]
 pub struct ZhengguangRow {
     pub mean: MeanMonth,
     pub degrees: u64,
     pub residue: DayParts,
 }
 
-#[derive(Drop)]
+#[derive(Clone, Copy)]
 pub enum ZhengguangRowAnswer {
     Answered(ZhengguangRow),
     Refused(Refusal),
 }
 
 // A distance since the last node in degrees, with its remainder over N and the half of a part beside it.
-#[derive(Drop)]
+#[derive(Clone, Copy)]
 pub struct NodeDistance {
     pub degrees: u64,
     pub remainder: DayParts,
@@ -56,19 +57,19 @@ pub struct NodeDistance {
 }
 
 // The distances at a month's new moon and at its full moon.
-#[derive(Drop)]
+#[derive(Clone, Copy)]
 pub struct MonthNodes {
     pub new: NodeDistance,
     pub full: NodeDistance,
 }
 
-#[derive(Drop)]
+#[derive(Clone, Copy)]
 pub enum MonthNodesAnswer {
     Answered(MonthNodes),
     Refused(Refusal),
 }
 
-#[derive(Drop)]
+#[derive(Clone, Copy)]
 pub struct Zhengguang;
 
 impl Zhengguang {

@@ -8,7 +8,7 @@ use crate::{Zhengguang, ZhengguangRow};
 use refusal::Refusal;
 
 // Where a walk ends, the sum of the answered counts, and how many were answered.
-#[derive(Drop)]
+#[derive(Clone, Copy)]
 pub struct ZhengguangWalk {
     pub row: ZhengguangRow,
     pub sum: i64,
@@ -16,7 +16,7 @@ pub struct ZhengguangWalk {
 }
 
 // A refused carry is no refusal of the walk: only a row that is not genuine is.
-#[derive(Drop)]
+#[derive(Clone, Copy)]
 pub enum ZhengguangWalkAnswer {
     Answered(ZhengguangWalk),
     Refused(Refusal),

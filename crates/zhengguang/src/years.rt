@@ -13,7 +13,7 @@ use mean_calendar::MeanHeadAnswer;
 use mean_year::PLACES;
 
 // Its head, or why it is refused, and its rows by place, with zeros past them.
-#[derive(Drop)]
+#[derive(Clone, Copy)]
 pub struct ZhengguangYear {
     pub head: ZhengguangHeadAnswer,
     pub rows: [ZhengguangRow; PLACES],

@@ -1,0 +1,9 @@
+use native.Mathlib.Omega.{arith}
+use Rattle.reckoning.proofs.Moons.{moon_high}
+use Rattle.lunisolar.specs.Calendars.{means_of}
+use borrow.Author.Rules.{rules}
+use Rattle.lunisolar.proofs.rule.term_reaches.Goals as goal
+
+pub term_from-requires : goal.term_from-requires
+term_from-requires c =
+    (c.requires.0, c.requires.1, omega (arith, c.new_moon_day.ensures, c.requires.2, moon_high (means_of c.args.k) c.requires.0.moon c.args.m))

@@ -1,0 +1,11 @@
+use native.Mathlib.Omega.{arith}
+use mathlib.Core.Path.{refl}
+use Rattle.lunisolar.proofs.Laws.{product}
+use Rattle.mean_calendar.specs.Heads.{head_of}
+use borrow.Author.Rules.{rules}
+use Rattle.mean_calendar.proofs.heads.head_of.Goals as goal
+
+pub returns : goal.returns
+unfolding head_of
+returns c =
+    rw (c.over_degree-solstice.ensures, c.year_months-months.ensures, c.requires.2) refl

@@ -1,0 +1,8 @@
+use Rattle.std.proofs.Common.{◌≡◌, ℕ, ◌-◌, ◌≤◌, Bool, eqb, List, length, get_or, refl, add-one, arith}
+use Rattle.reckoning.specs.Search.{all}
+use Rattle.walking.specs.Fields.{same_fields}
+use Rattle.walking.proofs.fields.same_fields.Goals as goal
+
+pub returns : goal.returns
+unfolding same_fields
+returns c = let e : c.loop-i.i ≡ length c.args.a.now = omega arith in rw e at c.loop-i.invariant.1
