@@ -1,6 +1,7 @@
 // The moon's anomaly and its correction, of a lunation alone. Instants and rests come in halves of a part over N, so that the full moon's
 // are whole numbers.
 #![tactic(auto)]
+
 ghost use Rattle.std.specs.Prelude.{◌≡◌, ◌+◌, ◌*◌, ◌<◌};
 ghost use Rattle.units.specs.Xinghe.{P, T, round_months};
 ghost use Rattle.anomaly.specs.Rates.{printed};

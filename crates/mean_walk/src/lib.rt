@@ -1,5 +1,6 @@
 // A walk in any calendar: a month carried by each of a list of signed counts in turn.
 #![tactic(auto)]
+
 ghost use Rattle.std.specs.Prelude.{◌≡◌};
 ghost use Rattle.lunisolar.specs.Calendars.{Sound};
 ghost use Rattle.mean_calendar.specs.Carries.{genuine_fields};

@@ -1,5 +1,6 @@
 // A whole year of any calendar by value. Its head is worked out once and serves all its months.
 #![tactic(auto)]
+
 ghost use Rattle.std.specs.Prelude.{◌≡◌, map, length};
 ghost use Rattle.lunisolar.specs.Calendars.{Sound};
 ghost use Rattle.mean_calendar.specs.Heads.{year_head};

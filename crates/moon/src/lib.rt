@@ -1,5 +1,6 @@
 // Functions of the lunation alone: lunations are counted from 0 at the origin.
 #![tactic(auto)]
+
 ghost use Rattle.std.specs.Prelude.{◌≡◌, ◌<◌};
 ghost use Rattle.units.specs.Xinghe.{N};
 ghost use Rattle.moon.specs.NewMoons.{new_moon_of, length_of, monthly_addition};

@@ -1,5 +1,6 @@
 // Day names: the label of a day of the sixty, as a part of one of two lent lists of names.
 #![tactic(auto)]
+
 ghost use Rattle.std.specs.Prelude.{◌≡◌};
 ghost use Rattle.names.specs.Names.{bytes_of, whose_number, location_for, location_number, label_number, label_of};
 

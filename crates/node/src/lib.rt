@@ -1,6 +1,7 @@
 // The moon's node: the distance since the last node, the side of the road, and eclipses, of a lunation alone.
 // Distances come in halves of a part over N, so that the full moon's are whole numbers.
 #![tactic(auto)]
+
 ghost use Rattle.std.specs.Prelude.{◌≡◌, ◌*◌, ◌<◌};
 ghost use Rattle.units.specs.Xinghe.{N, M, round_months};
 ghost use Rattle.node.specs.Eclipses.{distance_of, eclipse_at, eclipse_of, node_at};

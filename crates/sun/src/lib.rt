@@ -1,5 +1,6 @@
 // Functions of the year alone: years are counted from 0 at the origin.
 #![tactic(auto)]
+
 ghost use Rattle.std.specs.Prelude.{◌≡◌, ◌≤◌, ◌<◌};
 ghost use Rattle.sun.specs.Solstices.{solstice_of};
 ghost use Rattle.sun.specs.Points.{point_of};

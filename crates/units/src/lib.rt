@@ -1,5 +1,6 @@
 // The Xinghe calendar's numbers, by name, its printed chapter, and its units: remainders over N and over D.
 #![tactic(auto)]
+
 ghost use Rattle.std.specs.Prelude.{◌≡◌, ◌≤◌, ◌<◌};
 ghost use Rattle.reckoning.specs.Rule.{year_of};
 ghost use Rattle.reckoning.specs.Means.{new_moon};

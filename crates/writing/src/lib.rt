@@ -1,5 +1,6 @@
 // Writing into a lent buffer: what it is, the laws of writing one text after another, and the text that is at hand.
 #![tactic(auto)]
+
 ghost use Rattle.std.specs.Prelude.{◌+◌, ◌≤◌, length};
 ghost use Rattle.writing.specs.Written.{Wrote};
 

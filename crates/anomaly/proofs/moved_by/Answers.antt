@@ -1,0 +1,17 @@
+use native.Mathlib.Omega.{arith}
+use mathlib.Core.Path.{ap}
+use Rattle.units.specs.declared.remainder.DayCarry.{DayCarry}
+use Rattle.anomaly.specs.Corrections.{moved}
+use Rattle.anomaly.proofs.Moves.{later_is, earlier_is, day_before}
+use borrow.Author.Rules.{rules}
+use Rattle.anomaly.proofs.moved_by.Goals as goal
+
+pub returns-then-minus : goal.returns-then-minus
+unfolding moved
+returns-then-minus c =
+    rw (c.if-minus.true, later_is c.args.day c.args.remainder.parts c.args.correction.size c.requires.remainder c.requires.size, c.carry-carried.ensures)
+
+pub returns : goal.returns
+unfolding moved
+returns c =
+    rw (c.if-minus.false, earlier_is c.args.day c.args.remainder.parts c.args.correction.size c.requires.remainder c.requires.size, c.carry-carried-2.ensures)

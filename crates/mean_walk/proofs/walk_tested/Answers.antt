@@ -1,0 +1,45 @@
+use native.Mathlib.Omega.{arith}
+use mathlib.Core.Path.{◌≡◌, refl, sym, ap, ◌∙◌}
+use mathlib.Core.Bool.{Bool, true}
+use mathlib.Core.List.{List}
+use Rattle.lunisolar.specs.declared.Constants.{Constants}
+use Prim.Native.Nat.{ℕ, ◌<◌}
+use mir.Syntax.{w64}
+use mir.Val.{to_z, of_z}
+use Rattle.lunisolar.proofs.Laws.{lunations_bound}
+use Rattle.walking.specs.Walk.{walk, total, number}
+use Rattle.walking.specs.Fields.{named_month}
+use Rattle.walking.specs.declared.Arrival.{Arrival}
+use Rattle.walking.proofs.Program.{in_round_lem, final_below}
+use Rattle.walking.proofs.Arrivals.{arrived_row, arrived_sum, arrived_number}
+use Rattle.mean_calendar.specs.Months.{month_of}
+use Rattle.mean_calendar.specs.Carries.{months_of, genuine_fields}
+use Rattle.mean_calendar.proofs.Lawful.{lawful}
+use borrow.Author.Rules.{rules}
+use Rattle.mean_walk.proofs.walk_tested.Goals as goal
+
+-- past the test the numbers are genuine, and so their month is one of the calendar's
+from : (k : Constants) (start : List ℕ) (tested : Bool) → tested ≡ genuine_fields k start → tested ≡ true → named_month start < k.lunations
+from k start tested e h = in_round_lem k.lunations (named_month start) _ (sym e ∙ h)
+
+pub arrive-end-requires : goal.arrive-end-requires
+arrive-end-requires c =
+    (from c.args.k c.args.start.now c.args.genuine c.requires.1 c.if-genuine.true, omega (arith, lunations_bound c.args.k c.requires.0))
+
+pub month_of-month-requires : goal.month_of-month-requires
+month_of-month-requires c =
+    (c.requires.0, rw c.arrive-end.ensures (final_below c.args.k.lunations c.args.counts.now (named_month c.args.start.now) (from c.args.k c.args.start.now c.args.genuine c.requires.1 c.if-genuine.true)))
+
+pub returns-then-genuine : goal.returns-then-genuine
+returns-then-genuine c =
+    let x = c.args in
+    let k = x.k in
+    let m : ℕ = named_month x.start.now in
+    let cs = x.counts.now in
+    let e = c.arrive-end.ensures in
+    let held : to_z w64 (of_z w64 c.arrive-end.result.sum) ≡ c.arrive-end.result.sum = search rules in
+    let month : c.month_of-month.result ≡ walk (months_of k) (month_of k m) cs =
+    c.month_of-month.ensures ∙ ap (λ (y : Arrival). month_of k y.month) e ∙ arrived_row (months_of k) (lawful k) m (from c.args.k c.args.start.now c.args.genuine c.requires.1 c.if-genuine.true) cs in
+    let sum : c.arrive-end.result.sum ≡ total (months_of k) (month_of k m) cs = ap (λ (y : Arrival). y.sum) e ∙ arrived_sum (months_of k) (lawful k) m (from c.args.k c.args.start.now c.args.genuine c.requires.1 c.if-genuine.true) cs in
+    let hits : c.arrive-end.result.answered ≡ number (months_of k) (month_of k m) cs = ap (λ (y : Arrival). y.answered) e ∙ arrived_number (months_of k) (lawful k) m (from c.args.k c.args.start.now c.args.genuine c.requires.1 c.if-genuine.true) cs in
+    rw (sym c.requires.1 ∙ c.if-genuine.true, held, sum, month, hits) refl

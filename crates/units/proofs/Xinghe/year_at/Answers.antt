@@ -1,0 +1,6 @@
+use Rattle.units.proofs.Sound.{sound}
+use borrow.Author.Rules.{rules}
+use Rattle.units.proofs.Xinghe.year_at.Goals as goal
+
+pub year_at-requires : goal.year_at-requires
+year_at-requires c = rw c.constants.ensures sound
