@@ -1,6 +1,7 @@
 // The Xinghe calendar: year heads, month rows, and dates and day numbers, for every input.
 // A year is written from 1; a place is a month's index in its year, from 0; a day number is counted from the origin, from 0.
 #![tactic(auto)]
+
 use node::Side;
 use refusal::Refusal;
 use sun::Solstice;

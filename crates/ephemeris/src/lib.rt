@@ -1,6 +1,7 @@
 // The sky asked of a year and a place: phases, nodes and eclipses, corrections; and the points of a cut of a year. All of a month's come in one
 // answer. Months begin by the mean moon: nothing here moves a month.
 #![tactic(auto)]
+
 ghost use Rattle.std.specs.Prelude.{◌≡◌, ◌<◌};
 ghost use Rattle.ephemeris.specs.Jobs.{phases_at, nodes_at, corrections_at, point_in, cut_point};
 

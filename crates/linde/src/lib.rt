@@ -1,6 +1,7 @@
 // The Linde calendar (麟德曆, Tang) by its mean months and middle terms: every job of any calendar, at its constants.
 // Its years are counts from 0 to 300,000, as they stand; the year Linde 1 is 269,880.
 #![tactic(auto)]
+
 ghost use Rattle.std.specs.Prelude.{◌≡◌, map, pos, negsuc};
 ghost use Rattle.lunisolar.specs.Calendars.{Sound};
 ghost use Rattle.lunisolar.specs.Dates.{day_of_date, date_of_day};

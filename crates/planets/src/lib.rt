@@ -1,5 +1,6 @@
 // The five planets: their conjunctions with the sun, of a year and the one after it, and the stages between two conjunctions.
 #![tactic(auto)]
+
 ghost use Rattle.std.specs.Prelude.{◌≡◌, ◌<◌};
 ghost use Rattle.planets.specs.Jobs.{conjunctions_in, conjunctions_at, stages_at};
 

@@ -1,5 +1,6 @@
 // A walk: a row carried by each of a list of signed counts in turn.
 #![tactic(auto)]
+
 ghost use Rattle.std.specs.Prelude.{◌≡◌};
 ghost use Rattle.walk.specs.Walked.{walk_answer, walk_answer_fields, walk_number, walk_values, zero_walk};
 

@@ -1,4 +1,2 @@
 pub mod Fronts
 pub mod Years
-pub mod Plain
-pub mod Local

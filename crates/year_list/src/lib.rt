@@ -1,5 +1,6 @@
 // A whole year's rows: in a lent list, or by value. The year's head is worked out once and serves all its rows.
 #![tactic(auto)]
+
 ghost use Rattle.std.specs.Prelude.{◌≡◌, ◌+◌, ◌≤◌, ◌<◌, length};
 ghost use Rattle.units.specs.Xinghe.{round_months};
 ghost use Rattle.calendar.specs.Elements.{elements_of};

@@ -1,6 +1,7 @@
 // The Zhengguang calendar (正光曆, Wei, 520): every job of any calendar at its constants, with the leap remainder of its chapter in the head and the
 // distance since the node in the row. Years run from 1, inclusively; the year Xiaochang 3 is 167,756.
 #![tactic(auto)]
+
 ghost use Rattle.std.specs.Prelude.{◌≡◌};
 ghost use Rattle.lunisolar.specs.Calendars.{Sound};
 ghost use Rattle.lunisolar.specs.Dates.{day_of_date, date_of_day};

@@ -1,0 +1,16 @@
+use native.Mathlib.Omega.{arith}
+use Prim.Native.Nat.{◌-◌, ◌*◌, ◌%◌}
+use native.Mathlib.Nat.{mod-lt}
+use Rattle.units.specs.Xinghe.{P}
+use Rattle.planets.specs.Conjunctions.{rest, remaining, time, kind, conjunction_of}
+use Rattle.planets.proofs.Room.{less_most}
+use borrow.Author.Rules.{rules}
+use Rattle.planets.proofs.synodic.conjunction_of.Goals as goal
+
+pub overflow_add-result : goal.overflow_add-result
+overflow_add-result c =
+    omega (arith, c.less_half-time.ensures, less_most c.args.k.period c.args.k.halved (c.args.k.period - c.args.y * P % c.args.k.period), c.requires.0.room)
+
+pub returns : goal.returns
+unfolding conjunction_of time kind remaining rest
+returns c = rw (c.less_half-time.ensures, c.kind_from.ensures)

@@ -1,0 +1,21 @@
+use native.Mathlib.Omega.{arith}
+use mathlib.Core.Path.{ap}
+use Rattle.planets.specs.declared.synodic.ConjunctionParts.{ConjunctionParts}
+use Rattle.units.specs.Xinghe.{P}
+use Rattle.planets.proofs.Room.{instant_most, kept_time}
+use Rattle.planets.specs.Answers.{conjunctions_of}
+use borrow.Author.Rules.{rules}
+use Rattle.planets.proofs.synodic.conjunctions_of.Goals as goal
+
+pub following_of-requires : goal.following_of-requires
+following_of-requires c =
+    let a = c.args in
+    let e = c.conjunction_of-standing.ensures in (
+      c.requires.0,
+      omega (arith, ap (λ (s : ConjunctionParts). s.instant) e, instant_most P a.k.period a.k.halved a.y),
+      omega (arith, ap (λ (s : ConjunctionParts). s.time) e, kept_time P a.k.period a.k.halved a.y),
+    )
+
+pub returns : goal.returns
+unfolding conjunctions_of
+returns c = cc

@@ -1,0 +1,8 @@
+use mathlib.Core.Path.{refl}
+use Rattle.zhengguang.specs.Nodes.{distance_of}
+use borrow.Author.Rules.{rules}
+use Rattle.zhengguang.proofs.nodes.distance_of.Goals as goal
+
+pub returns : goal.returns
+unfolding distance_of
+returns c = rw (c.over_day-share.ensures, c.constants.ensures.0) refl

@@ -1,0 +1,30 @@
+use native.Mathlib.Omega.{arith}
+use mathlib.Core.Path.{◌≡◌, ◌∙◌, sym}
+use Rattle.lunisolar.specs.Calendars.{lunation_at}
+use Rattle.lunisolar.specs.declared.LunationAnswer.{LunationAnswer}
+use Rattle.lunisolar.proofs.Rounds.{lunation_in_round}
+use Rattle.zhengguang.specs.Zhengguang.{zhengguang}
+use Rattle.zhengguang.specs.Nodes.{nodes_for}
+use Rattle.zhengguang.proofs.Sound.{sound}
+use borrow.Author.Rules.{rules}
+use Rattle.zhengguang.proofs.nodes.nodes.Goals as goal
+
+pub nodes_of-requires : goal.nodes_of-requires
+nodes_of-requires c =
+    let answered : (let x = c.args in c.lunation_at.result ≡ lunation_at zhengguang x.year x.place) = rw c.constants.ensures.0 at c.lunation_at.ensures in
+    let is_lunation : (let x = c.args in LunationAnswer.Lunation c.in-Lunation.m ≡ lunation_at zhengguang x.year x.place) = sym c.in-Lunation.is ∙ answered in
+    let x = c.args in
+    omega (arith, lunation_in_round zhengguang sound x.year x.place c.in-Lunation.m is_lunation)
+
+pub returns-in-Lunation : goal.returns-in-Lunation
+unfolding nodes_for
+returns-in-Lunation c =
+    let answered : (let x = c.args in c.lunation_at.result ≡ lunation_at zhengguang x.year x.place) = rw c.constants.ensures.0 at c.lunation_at.ensures in
+    let is_lunation : (let x = c.args in LunationAnswer.Lunation c.in-Lunation.m ≡ lunation_at zhengguang x.year x.place) = sym c.in-Lunation.is ∙ answered in
+    rw (← is_lunation, c.nodes_of.ensures)
+
+pub returns-in-Refused : goal.returns-in-Refused
+unfolding nodes_for
+returns-in-Refused c =
+    let answered : (let x = c.args in c.lunation_at.result ≡ lunation_at zhengguang x.year x.place) = rw c.constants.ensures.0 at c.lunation_at.ensures in
+    rw (← answered, c.in-Refused.is)
