@@ -1,5 +1,6 @@
 // A year's block of an almanac volume: 512 bytes.
 #![tactic(auto)]
+
 ghost use Rattle.std.specs.Prelude.{◌≡◌, ◌+◌, ◌*◌, ◌≤◌, length};
 ghost use Rattle.writing.specs.Written.{Wrote};
 ghost use Rattle.calendar.specs.Heads.{year_head};

@@ -1,5 +1,6 @@
 // The values of each answer as the numbers that are written to the lent array, in the order of include/xinghe.h.
 #![tactic(auto)]
+
 ghost use Rattle.std.specs.Prelude.{◌≡◌};
 ghost use Rattle.fields.specs.Fields.{head_fields, day_fields, date_fields, phases_fields, nodes_fields, corrections_fields, point_fields, conjunctions_fields, location_fields};
 

@@ -1,5 +1,6 @@
 // Leap months and marked eclipses of a run of years.
 #![tactic(auto)]
+
 ghost use Rattle.std.specs.Prelude.{◌≡◌, ◌+◌, ◌-◌, ◌≤◌};
 ghost use Rattle.units.specs.Xinghe.{rule, round_years};
 ghost use Rattle.calendar.specs.Heads.{year_head};

@@ -1,0 +1,15 @@
+use native.Mathlib.Omega.{arith}
+use mathlib.Core.Path.{◌≡◌, refl}
+use Prim.Native.Nat.{◌+◌, ◌-◌, ◌*◌, ◌≤◌}
+use lib.ListN.{length, take, get_or}
+use lib.Seq.{take_all}
+use borrow.Author.Rules.{rules}
+use Rattle.blocks.specs.Check.{weighted}
+use Rattle.blocks.proofs.Sums.{sum_more}
+use Rattle.blocks.proofs.check.weigh.Given as goal
+
+abbrev pub invariant-loop-i : goal.invariant-loop-i
+invariant-loop-i l = (l.i ≤ length l.bytes) × (l.sum ≡ weighted l.past (take l.i l.bytes)) × (l.sum ≤ 131070 * l.i) × (l.weight ≡ l.i + 1)
+
+abbrev pub decreases-loop-i : goal.decreases-loop-i
+decreases-loop-i l = length l.bytes - l.i

@@ -1,0 +1,7 @@
+use Rattle.blocks.specs.Block.{totals_bytes}
+use borrow.Author.Rules.{rules}
+use Rattle.blocks.proofs.put_totals.Goals as goal
+
+pub returns : goal.returns
+unfolding totals_bytes
+returns c = c.put_three.ensures
