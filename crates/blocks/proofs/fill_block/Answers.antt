@@ -20,16 +20,16 @@ pub overflow_sub-n : goal.overflow_sub-n
 overflow_sub-n c = omega (arith, few c)
 
 pub slice_bounds-check-end-2 : goal.slice_bounds-check-end-2
-slice_bounds-check-end-2 c = sym (length-take-le 228 c.put_totals.new.0 (omega arith))
+slice_bounds-check-end-2 c = sym (length-take-le 228 c.put_totals.new.out (omega arith))
 
 pub check-sum-requires : goal.check-sum-requires
-check-sum-requires c = omega (arith, length-take-le 228 c.put_totals.new.0 (omega arith))
+check-sum-requires c = omega (arith, length-take-le 228 c.put_totals.new.out (omega arith))
 
 pub returns : goal.returns
 returns c =
     let x = c.args in
     whole x.year x.totals c.check-sum.result c.requires.0
-    (front x.year x.totals c.values-values.result (headed c.before.before.before.before.before.before.before.before.before.before.before.before.before.before.before.before)
+    (front x.year x.totals c.values-values.result (c.values-values.ensures ∙ ap head_values c.requires.1)
     c.put_head.ensures
     c.put_records.ensures
     c.put_zeros.ensures

@@ -13,10 +13,6 @@ use Rattle.blocks.specs.Block.{records}
 use Rattle.blocks.proofs.Blocks.{at_most_13}
 use Rattle.blocks.proofs.put_records.Given as goal
 
--- a turn's record is that of a place of the year
-pub place : (c : goal.In-loop-place) → (c.loop-place.place < (head_values c.args.head).months)
-place c = omega (arith, c.requires.2, c.loop-place-test.true)
-
 abbrev pub invariant-loop-place : goal.invariant-loop-place
 invariant-loop-place l =
     (l.place ≤ l.n) × Wrote l.initial.out l.out 8 (8 + 16 * l.place) (records l.year l.place) × (l.elements ≡ elements_of ((head_values l.head).before + l.place))
