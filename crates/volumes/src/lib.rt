@@ -1,5 +1,6 @@
 // Almanac volumes: runs of consecutive years, one block of 512 bytes a year.
 #![tactic(auto)]
+
 ghost use Rattle.std.specs.Prelude.{◌≡◌, ◌-◌, T, length};
 ghost use Rattle.units.specs.Xinghe.{is_year};
 ghost use Rattle.totals.specs.Totals.{totals};

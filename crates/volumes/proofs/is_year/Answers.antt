@@ -1,0 +1,8 @@
+use mathlib.Core.Path.{refl}
+use Rattle.reckoning.specs.Search.{between}
+use borrow.Author.Rules.{rules}
+use Rattle.volumes.proofs.is_year.Goals as goal
+
+pub returns : goal.returns
+unfolding between
+returns c = refl
