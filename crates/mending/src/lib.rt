@@ -1,5 +1,6 @@
 // A scratched volume mended in place: the first year from its sound blocks, and each block that differs from what it calls for written afresh.
 #![tactic(auto)]
+
 ghost use Rattle.std.specs.Prelude.{◌≡◌, ◌&&◌, ◌||◌, not, ◌++◌, ◌+◌, ◌-◌, ◌*◌, ◌≤◌, ◌<◌, T, eqb, length, set, drop};
 ghost use Rattle.reckoning.specs.Search.{pick, any, all, first_from};
 ghost use Rattle.units.specs.Xinghe.{round_years};

@@ -1,5 +1,6 @@
 // How many in a reign: the marked moons of a span of a volume's years, from the totals in one or two of its blocks.
 #![tactic(auto)]
+
 ghost use Rattle.std.specs.Prelude.{◌≡◌, length};
 ghost use Rattle.reigns.specs.Marked.{in_volume, none_below, from_last, from_both, marked_answer, marked_number, marked_moons};
 

@@ -1,0 +1,7 @@
+use Rattle.mending.specs.Mended.{mendable}
+use borrow.Author.Rules.{rules}
+use Rattle.mending.proofs.is_mendable.Goals as goal
+
+pub returns : goal.returns
+unfolding mendable
+returns c = rw c.whole_blocks.ensures

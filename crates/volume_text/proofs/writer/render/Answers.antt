@@ -1,0 +1,16 @@
+use native.Mathlib.Omega.{arith}
+use Rattle.writing.proofs.Writings.{and_then, from_front}
+use Rattle.year_text.proofs.Lengths.{field_length}
+use borrow.Author.Rules.{rules}
+use Rattle.volume_text.proofs.writer.render.Goals as goal
+
+pub put_field-requires : goal.put_field-requires
+put_field-requires c =
+    let w = c.put_field-end.ensures in
+    omega (arith, w.long, w.next, field_length c.in-Years.first 32)
+
+pub returns-in-Years : goal.returns-in-Years
+returns-in-Years c = rw c.in-Years.is (from_front (and_then c.put_field-end.ensures c.put_field.ensures))
+
+pub returns-in-Refused : goal.returns-in-Refused
+returns-in-Refused c = rw c.in-Refused.is (from_front c.put_refusal.ensures)
