@@ -1,5 +1,6 @@
 // What the mending program prints: the lines into a lent buffer, the volume where it was read.
 #![tactic(auto)]
+
 ghost use Rattle.std.specs.Prelude.{◌≡◌, ◌*◌, ◌≤◌, length};
 ghost use Rattle.writing.specs.Written.{Wrote, after_text, texts};
 ghost use Rattle.mending.specs.Mended.{after_mend};

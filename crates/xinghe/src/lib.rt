@@ -1,6 +1,7 @@
 // The calendars for C and Rust: the functions of include/xinghe.h, here the Xinghe's. Each takes any numbers, returns 0 or the number under which it
 // refuses, and writes its values as plain numbers to the arrays lent to it: zeros where it refuses.
 #![tactic(auto)]
+
 ghost use Rattle.std.specs.Prelude.{◌≡◌, [], ◌∷◌, length};
 ghost use Rattle.calendar.specs.Heads.{year_head};
 ghost use Rattle.calendar.specs.Rows.{row_fields, month_row};
