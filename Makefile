@@ -21,7 +21,7 @@ override MENDED := $(value MENDED)
 export YEAR PLACE DAY FIRST LAST SCRATCHED MENDED
 
 library = target/staticlib/libxinghe.a
-sources := $(shell find crates -name '*.rt' -o -name '*.antt') crates.txt
+sources := $(shell find crates -name out -prune -o \( -name '*.rt' -o -name '*.antt' \) -print) crates.txt
 
 need_rt = command -v rt >/dev/null || \
 	{ echo 'rt is not there: the Rattle kit has to be on the PATH, see README.md' >&2; exit 1; }
@@ -37,7 +37,7 @@ test:
 # A year as the year printer writes it.
 year:
 	@$(need_rt)
-	@$(call quietly,rt check year_printer,year.log)
+	@$(call quietly,tools/build year_printer,year.log)
 	@printf '%s\n' "$$YEAR" | target/bin/year_printer
 
 # The head of a year by the library, from C and from Rust.
@@ -58,7 +58,7 @@ day: $(library)
 # alone writes lines of its own among them.
 volume:
 	@$(need_rt)
-	@$(call quietly,rt check volume_writer,volume.log)
+	@$(call quietly,tools/build volume_writer,volume.log)
 	@printf '%s %s\n' "$$FIRST" "$$LAST" | target/bin/volume_writer
 
 # The volume in the file SCRATCHED, mended and written to the file MENDED; the indices
@@ -67,7 +67,7 @@ volume:
 # Refused, MENDED isn't written.
 mend:
 	@$(need_rt)
-	@$(call quietly,rt check mend,mend.log)
+	@$(call quietly,tools/build mend,mend.log)
 	@target/bin/mend <"$$SCRATCHED" >target/mend.out || exit 1; \
 	case "$$(head -n 1 target/mend.out)" in refused*) cat target/mend.out; exit 1;; esac; \
 	bytes=$$(($$(wc -c <"$$SCRATCHED"))); \
@@ -75,10 +75,10 @@ mend:
 
 $(library): $(sources)
 	@$(need_rt)
-	@$(call quietly,rt staticlib xinghe,staticlib.log)
+	@$(call quietly,tools/build xinghe,staticlib.log)
 
 # The proved library against plain Rust, as ratios.
 bench:
 	@$(need_rt)
-	rt staticlib xinghe
+	tools/build xinghe
 	cd rust && cargo run --release --offline --package bench

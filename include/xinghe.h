@@ -48,7 +48,7 @@
  * or the length beside it says; and an array that is written overlaps no other
  * argument.
  *
- * x86-64 Linux; link libxinghe.a, which `rt staticlib xinghe` makes. */
+ * x86-64 Linux; link libxinghe.a, which `tools/build xinghe` makes. */
 #ifndef XINGHE_H
 #define XINGHE_H
 

@@ -1,4 +1,4 @@
-//! Links the library that `rt staticlib xinghe` makes.
+//! Links the library that `tools/build xinghe` makes.
 
 use std::path::Path;
 
@@ -8,7 +8,7 @@ fn main() {
     let library = folder.join("libxinghe.a");
     println!("cargo:rerun-if-changed={}", library.display());
     if !library.is_file() {
-        panic!("{} is missing; run: rt staticlib xinghe", library.display());
+        panic!("{} is missing; run: tools/build xinghe", library.display());
     }
     println!("cargo:rustc-link-search=native={}", folder.display());
     println!("cargo:rustc-link-lib=static=xinghe");

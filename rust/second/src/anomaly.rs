@@ -1,14 +1,24 @@
-//! The moon's correction from the 28 signed rates.
+//! The moon's correction from 28 signed rates, the printed ones or any others.
 
 use crate::instants::Phase;
 use crate::numbers::{N, SMALL_CIRCUIT};
 use crate::spans::{carried, Span};
 
-const RATES: [i64; 28] = [
+/// The days of the anomaly.
+pub const DAYS: usize = 28;
+
+/// A rate for each day.
+pub type Rates = [i64; DAYS];
+
+pub const PRINTED: Rates = [
     757, 689, 616, 545, 466, 315, 89, -139, -283, -390, -502, -618, -729, -816, -731, -646, -558,
     -445, -334, -214, -79, 63, 225, 388, 549, 674, 701, 734,
 ];
 
+/// The greatest size of a rate.
+pub const GREATEST_RATE: u64 = 1_000;
+
+/// The least and the greatest correction by the printed rates.
 const LEAST: i64 = -83_462;
 const GREATEST: i64 = 96_507;
 
@@ -79,41 +89,92 @@ struct TableDay {
     raises: bool,
 }
 
-static TABLE: [TableDay; 28] = table();
-
-const fn table() -> [TableDay; 28] {
-    let unfilled = TableDay {
+impl TableDay {
+    const UNFILLED: Self = Self {
         changes: [Share::ZERO; DOUBLINGS],
         amount: 0,
         negative: false,
         raises: false,
     };
-    let mut days = [unfilled; 28];
-    let mut sum_before = 0;
+
+    const fn of(rates: &Rates, index: usize) -> Self {
+        let sum = sum_before(rates, index);
+        let day = index + 1;
+        Self {
+            changes: doubled(Share::LEAST.times(rates[index].unsigned_abs())),
+            amount: Share::DAY.times(sum.unsigned_abs()).rounded_half_up(),
+            negative: sum < 0 || (sum == 0 && day == 15),
+            raises: matches!(day, 1..=7 | 15..=21),
+        }
+    }
+
+    /// What the day's rate comes to in the rest of an anomaly, made up of doublings.
+    fn change(&self, anomaly: Span) -> u64 {
+        let half_parts = anomaly.remainder + anomaly.remainder + anomaly.half;
+        let mut sum = Share::ZERO;
+        for (i, doubling) in self.changes.iter().enumerate() {
+            // A sum that is always added and sometimes kept spares a jump that
+            // nothing foretells.
+            let more = sum.plus(*doubling);
+            sum = if half_parts >> i & 1 == 1 { more } else { sum };
+        }
+        sum.parts
+    }
+
+    /// The amount changed by so much. One that is lowered by more than it has is
+    /// used up.
+    fn changed(&self, change: u64) -> i64 {
+        let size = if self.raises {
+            self.amount + change
+        } else {
+            self.amount.saturating_sub(change)
+        };
+        self.signed(size)
+    }
+
+    fn signed(&self, size: u64) -> i64 {
+        let size = size as i64;
+        if self.negative {
+            -size
+        } else {
+            size
+        }
+    }
+}
+
+const fn sum_before(rates: &Rates, index: usize) -> i64 {
+    let mut sum = 0;
     let mut i = 0;
-    while i < 28 {
-        days[i] = table_day(i as u64 + 1, RATES[i], sum_before);
-        sum_before += RATES[i];
+    while i < index {
+        sum += rates[i];
+        i += 1;
+    }
+    sum
+}
+
+static TABLE: [TableDay; DAYS] = table(&PRINTED);
+
+const fn table(rates: &Rates) -> [TableDay; DAYS] {
+    let mut days = [TableDay::UNFILLED; DAYS];
+    let mut i = 0;
+    while i < DAYS {
+        days[i] = TableDay::of(rates, i);
         i += 1;
     }
     days
 }
 
-const fn table_day(day: u64, rate: i64, sum_before: i64) -> TableDay {
-    let size_before = sum_before.unsigned_abs();
-    let amount = Share::DAY.times(size_before).rounded_half_up();
-    // Nothing has accumulated before days 1 and 15 alone.
-    assert!((amount == 0) == (day == 1 || day == 15));
-    // A day raises where the sum leaves it larger; the paper lists these days.
-    let raises = (sum_before + rate).unsigned_abs() > size_before;
-    assert!(raises == matches!(day, 1..=7 | 15..=21));
-    TableDay {
-        changes: doubled(Share::LEAST.times(rate.unsigned_abs())),
-        amount,
-        negative: sum_before < 0 || day == 15,
-        raises,
+// Checked while compiling: by the printed rates nothing has accumulated before days
+// 1 and 15 alone, and a day raises where it leaves the sum larger.
+const _: () = {
+    let mut i = 0;
+    while i < DAYS {
+        let (before, after) = (sum_before(&PRINTED, i), sum_before(&PRINTED, i + 1));
+        assert!((TABLE[i].amount == 0) == (i == 0 || i == 14));
+        assert!(TABLE[i].raises == (after.unsigned_abs() > before.unsigned_abs()));
+        i += 1;
     }
-}
+};
 
 const fn doubled(least: Share) -> [Share; DOUBLINGS] {
     let mut doublings = [least; DOUBLINGS];
@@ -123,6 +184,37 @@ const fn doubled(least: Share) -> [Share; DOUBLINGS] {
         i += 1;
     }
     doublings
+}
+
+/// Where a day of the anomaly, counted from 1, and a rest of it stand in the round,
+/// if they do.
+pub fn into_round(day: u64, rest: u64, half: u64) -> Option<Span> {
+    let anomaly = Span::new(day.checked_sub(1)?, rest, half);
+    let stands = rest < N && half < 2 && anomaly < Span::ANOMALY_ROUND;
+    stands.then_some(anomaly)
+}
+
+/// A list that has a rate for each day, none of them too great.
+pub fn listed(rates: &[i64]) -> Option<&Rates> {
+    let rates: &Rates = rates.try_into().ok()?;
+    let mut sizes = rates.iter().map(|rate| rate.unsigned_abs());
+    sizes.all(|size| size <= GREATEST_RATE).then_some(rates)
+}
+
+/// What has accumulated before a day, and the correction so far into it.
+#[derive(Clone, Copy, Debug, PartialEq, Eq)]
+pub struct ByRates {
+    pub amount: i64,
+    pub correction: i64,
+}
+
+/// At an anomaly of the round, by any rates.
+pub fn by_rates(rates: &Rates, anomaly: Span) -> ByRates {
+    let day = TableDay::of(rates, anomaly.whole as usize);
+    ByRates {
+        amount: day.signed(day.amount),
+        correction: day.changed(day.change(anomaly)),
+    }
 }
 
 /// The correction at one new or full moon, and the phase it gives. At new
@@ -177,7 +269,9 @@ fn moved_on(into_round: Span, way: Span) -> Span {
 /// The correction at an anomaly, applied to the phase.
 fn corrected(anomaly: Span, phase: Phase) -> Correction {
     let day = &TABLE[anomaly.whole as usize];
-    let correction = correction(day, anomaly.remainder, anomaly.half);
+    let change = day.change(anomaly);
+    assert!(day.raises || change <= day.amount, "lowered past nothing");
+    let correction = day.changed(change);
     assert!((LEAST..=GREATEST).contains(&correction));
     let (day, remainder) = moved(phase, correction);
     Correction {
@@ -198,34 +292,6 @@ fn half_of(phase: Phase) -> u64 {
         2 => 1,
         _ => panic!("neither new nor full"),
     }
-}
-
-fn correction(day: &TableDay, rest: u64, half: u64) -> i64 {
-    let change = change(day, rest + rest + half);
-    let size = if day.raises {
-        day.amount + change
-    } else {
-        assert!(change <= day.amount, "lowered past nothing");
-        day.amount - change
-    };
-    let size = size as i64;
-    if day.negative {
-        -size
-    } else {
-        size
-    }
-}
-
-/// What the day's rate comes to in so many half parts, made up of doublings.
-fn change(day: &TableDay, half_parts: u64) -> u64 {
-    let mut sum = Share::ZERO;
-    for (i, doubling) in day.changes.iter().enumerate() {
-        // A sum that is always added and sometimes kept spares a jump that
-        // nothing foretells.
-        let more = sum.plus(*doubling);
-        sum = if half_parts >> i & 1 == 1 { more } else { sum };
-    }
-    sum.parts
 }
 
 /// Takes the correction from the remainder and carries at most one day. The

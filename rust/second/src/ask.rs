@@ -1,5 +1,6 @@
 //! The questions of the rules paper with their refusals, answered by the walk.
 
+use crate::anomaly::{self, ByRates};
 use crate::checkpoints::Checkpoints;
 use crate::counts::Count;
 use crate::cuts;
@@ -15,7 +16,7 @@ use crate::walker::{Month, Row, Year};
 pub enum Refusal {
     Year = 1,
     Place = 2,
-    /// Of a month, or of the sixty.
+    /// Of a month, of the sixty, or of the anomaly with its rest.
     NoSuchDay = 3,
     ForgedRow = 4,
     CarryOutside = 5,
@@ -30,6 +31,8 @@ pub enum Refusal {
     Block = 12,
     /// The year of a volume's first block is not known, or its run leaves the round.
     FirstYear = 13,
+    /// Not one for each day of the anomaly, or one that is too great.
+    Rates = 14,
 }
 
 impl Refusal {
@@ -102,6 +105,19 @@ pub fn fill_year(number: u64, lent: &mut [RowNumbers]) -> Result<usize, Refusal>
 pub fn cut_point(number: u64, points: u64, index: u64) -> Result<Count, Refusal> {
     let solstice = year(number)?.solstice;
     cuts::point(ASKED_CUTS, solstice, points, index).ok_or(Refusal::Cut)
+}
+
+/// The amount before a day of the anomaly and the correction at a rest of it, by any
+/// list of rates. The day is looked at before the list.
+pub fn correction_by_rates(
+    rates: &[i64],
+    day: u64,
+    rest: u64,
+    half: u64,
+) -> Result<ByRates, Refusal> {
+    let anomaly = anomaly::into_round(day, rest, half).ok_or(Refusal::NoSuchDay)?;
+    let rates = anomaly::listed(rates).ok_or(Refusal::Rates)?;
+    Ok(anomaly::by_rates(rates, anomaly))
 }
 
 /// A planet's conjunctions of a year.

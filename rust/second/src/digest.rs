@@ -1,12 +1,13 @@
 //! Two running sums over every number of the walk.
 
+use crate::anomaly::ByRates;
 use crate::blocks::Block;
 use crate::fields;
 use crate::instants::ASKED_CUTS;
 use crate::sixty::{self, GANZHI};
 use crate::walker::{Month, Year};
 
-/// Added to corrections, so that none is negative.
+/// Added to corrections and amounts, so that none is negative.
 const CORRECTION_SHIFT: i64 = 1_000_000;
 
 #[derive(Clone, Copy, Debug, PartialEq, Eq)]
@@ -61,6 +62,11 @@ impl Digest {
         for conjunctions in &year.conjunctions {
             self.feed_all(fields::conjunctions(conjunctions).as_flattened());
         }
+    }
+
+    pub fn feed_by_rates(&mut self, answer: &ByRates) {
+        let signed = [answer.amount, answer.correction];
+        self.feed_signed(&signed.map(|value| value + CORRECTION_SHIFT));
     }
 
     /// A volume's block, by fours of bytes.

@@ -36,6 +36,8 @@ pub mod numerals;
 pub mod planet_cases;
 pub mod planets;
 pub mod printer;
+pub mod rate_cases;
+pub mod rate_survey;
 pub mod reign_cases;
 pub mod reigns;
 pub mod scratched;

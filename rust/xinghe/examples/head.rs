@@ -1,5 +1,5 @@
 //! Prints the head of a year, as examples/head.c does. From the project's
-//! directory, after `rt staticlib xinghe`:
+//! directory, after `tools/build xinghe`:
 //!
 //!     cargo run --release --offline --manifest-path rust/Cargo.toml --package xinghe --example head -- 293997
 

@@ -1,4 +1,4 @@
-//! The Xinghe calendar, as `rt staticlib xinghe` makes it, for Rust.
+//! The Xinghe calendar, as `tools/build xinghe` makes it, for Rust.
 //!
 //! Every function takes any numbers whatever. `Err` holds the number under
 //! which the library refuses: 1 the year, 2 the place, a span in the wrong order or

@@ -1,5 +1,5 @@
 //! The year printer is run on many inputs and compared with the independent
-//! second program. `rt check year_printer` makes it.
+//! second program. `tools/build year_printer` makes it.
 
 // No counts of months are drawn here.
 #[allow(dead_code)]

@@ -27,7 +27,7 @@ fn path() -> String {
     let shown = path.display().to_string();
     assert!(
         path.is_file(),
-        "{shown} is missing; run: rt check year_printer"
+        "{shown} is missing; run: tools/build year_printer"
     );
     shown
 }

@@ -1,5 +1,5 @@
 //! The volume writer, the volume reader and the mending program are run and compared
-//! with the independent second program. `rt check volume_writer volume_reader mend`
+//! with the independent second program. `tools/build volume_writer volume_reader mend`
 //! makes them.
 
 // No counts of months are drawn here.

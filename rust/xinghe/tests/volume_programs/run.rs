@@ -21,7 +21,7 @@ fn path(program: &str) -> PathBuf {
     let shown = path.display();
     assert!(
         path.is_file(),
-        "{shown} is missing; run: rt check {program}"
+        "{shown} is missing; run: tools/build {program}"
     );
     path
 }
