@@ -25,9 +25,6 @@ sum_step [] (suc k) = refl
 sum_step (r ∷ rs) zero = +ℤ_idr r ∙ sym (+ℤ_idl r)
 sum_step (r ∷ rs) (suc k) = ap (λ (z : ℤ). r +ℤ z) (sum_step rs k) ∙ sym (+ℤ_assoc r (sum_of rs k) (get_or rs k (pos 0)))
 
-pub sum_one_more : (rs : List ℤ) (k : ℕ) → sum_of rs k +ℤ get_or rs k (pos 0) ≡ sum_of rs (k + 1)
-sum_one_more rs k = rw add-one (sym (sum_step rs k))
-
 pub rate_small : (rs : List ℤ) → T (small rs) → (k : ℕ) → nat_abs (get_or rs k (pos 0)) ≤ 1000
 rate_small [] h k = omega arith
 rate_small (r ∷ rs) h zero = leb→le (nat_abs r) 1000 (both_left (leb (nat_abs r) 1000) (small rs) h)
@@ -43,6 +40,16 @@ sum_small (r ∷ rs) h (suc k) =
     omega (arith, size_add r (sum_of rs k))
 
 module _ (rs : List ℤ) (h : T (small rs)) where
+  -- the machine's sum, of the two numbers' bits
+  pub sum_bits : (k : ℕ) → k < 28 → to_z w64 (of_z w64 (sum_of rs k)) +ℤ to_z w64 (of_z w64 (get_or rs k (pos 0))) ≡ sum_of rs (k + 1)
+  sum_bits k b =
+      rw (
+        back (sum_of rs k) (omega (arith, sum_small rs h k)),
+        back (get_or rs k (pos 0)) (omega (arith, rate_small rs h k)),
+        add-one,
+      )
+      (sym (sum_step rs k))
+
   pub sum_back : (k : ℕ) → k ≤ 28 → to_z w64 (of_z w64 (sum_of rs k)) ≡ sum_of rs k
   sum_back k b = back (sum_of rs k) (omega (arith, sum_small rs h k))
 

@@ -1,7 +1,6 @@
 -- The figures by which a place next to the leap month's is found: room for them, and what they give.
 -- Assumes nothing.
 use mathlib.Core.Path.{◌≡◌, refl}
-use mathlib.Core.Logic.{⊎_elim}
 use Prim.Native.Nat.{ℕ, zero, suc, ◌+◌, ◌-◌, ◌*◌, ◌/◌, ◌%◌, ◌≤◌, ◌<◌}
 use native.Mathlib.Omega.{arith}
 use native.Mathlib.Nat.{div-add-mod', mod-lt, mul-pos, mul-le-mul_left, lt_of_mul-lt-mul_right, le-div_iff_mul-le}
@@ -10,7 +9,7 @@ use Rattle.reckoning.specs.Figures.{LeapNear}
 use Rattle.reckoning.proofs.Near.{solstice_before, month_before, near_leap}
 use Rattle.lunisolar.specs.Calendars.{means_of, rule_of, Sound}
 use Rattle.lunisolar.specs.declared.Constants.{Constants}
-use Rattle.lunisolar.proofs.Laws.{product, laws_of, before_bound}
+use Rattle.lunisolar.proofs.Laws.{product, before_bound}
 
 difference : (a b c : ℕ) → a < b + c → 0 < c → a - b < c
 difference a b c h i = omega (arith, h, i)

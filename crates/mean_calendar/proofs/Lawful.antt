@@ -10,13 +10,12 @@ use lib.ListN.{get_or}
 use Rattle.reckoning.proofs.Searches.{all_at}
 use Rattle.lunisolar.specs.declared.Constants.{Constants}
 use Rattle.walking.specs.Walk.{Answer, answered, refused}
-use Rattle.walking.specs.Fields.{bit_of, same_fields}
+use Rattle.walking.specs.Fields.{same_fields}
 use Rattle.walking.proofs.Walks.{Lawful}
 use Rattle.walking.proofs.Bits.{bit_eq}
 use Rattle.mean_calendar.specs.Months.{field_count, month_fields, month_of}
 use Rattle.mean_calendar.specs.Carries.{months_of, shown}
 use Rattle.mean_calendar.specs.declared.MeanMonth.{MeanMonth}
-use Rattle.mean_calendar.specs.declared.MeanMonthAnswer.{MeanMonthAnswer}
 
 -- a month is told by its numbers
 pub month_by : (r s : MeanMonth) → ((i : ℕ) → i < field_count → get_or (month_fields r) i 0 ≡ get_or (month_fields s) i 0) → r ≡ s

@@ -1,11 +1,10 @@
 -- Every year has 12 months and no leap month, or 13 and exactly one, as its head and its months say it.
 -- Assumes nothing.
 use mathlib.Core.Path.{◌≡◌, ◌∙◌, refl, sym, ap}
-use mathlib.Core.Bool.{Bool, true, false}
+use mathlib.Core.Bool.{true, false}
 use mathlib.Core.Logic.{◌⊎◌, inl, inr, ⊎_elim}
-use Prim.Native.Nat.{ℕ, zero, suc, ◌+◌, ◌-◌, ◌≤◌, ◌<◌}
+use Prim.Native.Nat.{ℕ, ◌-◌, ◌≤◌, ◌<◌}
 use native.Mathlib.Omega.{arith}
-use lib.Dec.{ltb, eqb}
 use borrow.Author.Tests.{lt-ltb, eq-eqb, ne_eqb}
 use Rattle.reckoning.specs.Rule.{month_count, leap_place}
 use Rattle.reckoning.specs.Figures.{leap_at}
@@ -21,7 +20,6 @@ use Rattle.mean_calendar.specs.Months.{month_of, month_row}
 use Rattle.mean_calendar.specs.Answers.{month_values}
 use Rattle.mean_calendar.specs.declared.MeanHead.{MeanHead}
 use Rattle.mean_calendar.specs.declared.MeanHeadAnswer.{MeanHeadAnswer}
-use Rattle.mean_calendar.specs.declared.MeanMonthAnswer.{MeanMonthAnswer}
 use Rattle.mean_calendar.proofs.Found.{head_found, head_stands, head_month}
 
 -- twelve months, none of them marked leap; or thirteen, of which the one at the leap place is marked and no other

@@ -2,8 +2,6 @@
 -- Assumes nothing.
 use Rattle.std.specs.Prelude.{ℕ, ◌/◌, ◌%◌}
 use Rattle.lunisolar.specs.declared.Constants.{Constants}
-use Rattle.mean_calendar.specs.declared.parts.DayParts.{DayParts}
-use Rattle.mean_calendar.specs.declared.parts.DegreeParts.{DegreeParts}
 use Rattle.mean_calendar.specs.declared.parts.DayShare.{DayShare}
 use Rattle.mean_calendar.specs.declared.parts.DegreeShare.{DegreeShare}
 

@@ -1,15 +1,12 @@
 -- Demand 3 of any calendar, once over its constants.
 -- Assumes nothing.
 use mathlib.Core.Path.{◌≡◌}
-use mathlib.Core.List.{List}
 use Prim.Native.Nat.{ℕ}
 use native.Mathlib.Omega.{arith}
-use lib.IntN.{ℤ}
 use Rattle.refusal.specs.declared.Refusal.{Refusal}
 use Rattle.lunisolar.specs.declared.Constants.{Constants}
 use Rattle.walking.proofs.Demand.{Demand, demand}
 use Rattle.mean_calendar.specs.Carries.{months_of, shown}
-use Rattle.mean_calendar.specs.declared.MeanMonth.{MeanMonth}
 use Rattle.mean_calendar.proofs.Lawful.{lawful, lossless}
 use Rattle.mean_walk.specs.Walked.{walked}
 use Rattle.mean_walk.specs.declared.MeanWalkAnswer.{MeanWalkAnswer}

@@ -1,11 +1,9 @@
 use native.Mathlib.Omega.{arith}
-use mathlib.Core.Path.{◌≡◌, refl, ap}
+use mathlib.Core.Path.{◌≡◌, refl}
 use native.Mathlib.Nat.{zero-add}
 use Prim.Native.Nat.{◌*◌, ◌/◌, ◌%◌}
 use Rattle.units.specs.Xinghe.{T}
-use Rattle.units.specs.declared.remainder.DayCarry.{DayCarry}
 use Rattle.anomaly.specs.Corrections.{anomaly_at}
-use borrow.Author.Rules.{rules}
 use Rattle.anomaly.proofs.anomaly_in.Goals as goal
 
 pub returns : goal.returns

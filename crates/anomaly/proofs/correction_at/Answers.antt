@@ -1,7 +1,6 @@
 use mathlib.Core.Path.{sym, ◌∙◌}
 use Rattle.anomaly.specs.Rates.{printed}
 use Rattle.anomaly.proofs.Fair.{day_at, in_halves}
-use borrow.Author.Rules.{rules}
 use Rattle.anomaly.proofs.correction_at.Goals as goal
 
 pub correction_on-requires : goal.correction_on-requires

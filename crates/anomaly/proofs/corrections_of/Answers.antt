@@ -1,5 +1,4 @@
 use Rattle.anomaly.specs.Corrections.{corrections_of}
-use borrow.Author.Rules.{rules}
 use Rattle.anomaly.proofs.corrections_of.Goals as goal
 
 pub returns : goal.returns

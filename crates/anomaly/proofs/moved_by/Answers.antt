@@ -1,9 +1,5 @@
-use native.Mathlib.Omega.{arith}
-use mathlib.Core.Path.{ap}
-use Rattle.units.specs.declared.remainder.DayCarry.{DayCarry}
 use Rattle.anomaly.specs.Corrections.{moved}
-use Rattle.anomaly.proofs.Moves.{later_is, earlier_is, day_before}
-use borrow.Author.Rules.{rules}
+use Rattle.anomaly.proofs.Moves.{later_is, earlier_is}
 use Rattle.anomaly.proofs.moved_by.Goals as goal
 
 pub returns-then-minus : goal.returns-then-minus

@@ -3,7 +3,6 @@ use borrow.Author.Tests.{le-leb, lt-leb}
 use Prim.Native.Nat.{◌+◌, ◌-◌}
 use Rattle.units.specs.Xinghe.{P, T}
 use Rattle.anomaly.specs.Steps.{next_into}
-use borrow.Author.Rules.{rules}
 use Rattle.anomaly.proofs.next_into.Goals as goal
 
 pub returns-then-sum : goal.returns-then-sum

@@ -1,13 +1,10 @@
 use native.Mathlib.Omega.{arith}
-use mathlib.Core.Path.{sym, ap}
-use Prim.Native.Nat.{ℕ}
-use lib.Dec.{ltb}
+use mathlib.Core.Path.{sym}
 use borrow.Author.Tests.{lt-ltb}
 use Rattle.reckoning.specs.Rule.{month_count}
 use Rattle.reckoning.proofs.Leaps.{year_low, year_ends}
 use Rattle.lunisolar.specs.Calendars.{rule_of}
 use Rattle.lunisolar.proofs.Laws.{laws_of}
-use borrow.Author.Rules.{rules}
 use Rattle.lunisolar.proofs.has_place.Goals as goal
 
 pub returns-then-place-lt12 : goal.returns-then-place-lt12

@@ -4,7 +4,6 @@ use Prim.Native.Nat.{◌<◌}
 use Rattle.lunisolar.specs.Calendars.{year_at, lunation_for}
 use Rattle.lunisolar.specs.declared.YearAnswer.{YearAnswer}
 use Rattle.lunisolar.proofs.Laws.{year_found}
-use borrow.Author.Rules.{rules}
 use Rattle.lunisolar.proofs.lunation_at.Goals as goal
 
 -- the year that the match binds

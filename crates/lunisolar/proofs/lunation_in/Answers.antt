@@ -4,7 +4,6 @@ use borrow.Author.Tests.{ltb-true}
 use Rattle.reckoning.specs.Rule.{month_count}
 use Rattle.lunisolar.specs.Calendars.{rule_of, lunation_for}
 use Rattle.lunisolar.proofs.Laws.{before_bound, count_bound}
-use borrow.Author.Rules.{rules}
 use Rattle.lunisolar.proofs.lunation_in.Goals as goal
 
 pub overflow_add-result : goal.overflow_add-result

@@ -1,12 +1,10 @@
-use mathlib.Core.Path.{◌≡◌, refl, sym, ap, ◌∙◌}
+use mathlib.Core.Path.{◌≡◌, sym, ap, ◌∙◌}
 use Rattle.lunisolar.specs.declared.LunationAnswer.{LunationAnswer}
 use Rattle.mean_calendar.specs.Heads.{year_head}
 use Rattle.mean_calendar.specs.Months.{month_for}
 use Rattle.mean_calendar.specs.Answers.{month_values}
 use Rattle.mean_calendar.specs.declared.MeanHeadAnswer.{MeanHeadAnswer}
-use Rattle.mean_calendar.specs.declared.MeanMonthAnswer.{MeanMonthAnswer}
 use Rattle.mean_calendar.proofs.Found.{past_count, no_year}
-use borrow.Author.Rules.{rules}
 use Rattle.mean_year.proofs.month_at.Goals as goal
 
 -- the head that the match binds

@@ -1,10 +1,7 @@
 use native.Mathlib.Omega.{arith}
 use mathlib.Core.Path.{◌≡◌, refl, sym, ap, ◌∙◌}
-use mathlib.Core.List.{List}
-use Prim.Native.Nat.{ℕ, ◌-◌, ◌≤◌}
-use lib.ListN.{length, set}
-use Rattle.reckoning.proofs.Lists.{filled_to, none_filled, filled_length, all_filled, one_more, map_from}
-use Rattle.lunisolar.specs.declared.Constants.{Constants}
+use lib.ListN.{set}
+use Rattle.reckoning.proofs.Lists.{filled_to, none_filled, all_filled, one_more, map_from}
 use Rattle.mean_calendar.specs.Months.{month_fields}
 use Rattle.mean_year.specs.Years.{places, month_at}
 use Rattle.mean_year.proofs.write_months.Goals as goal

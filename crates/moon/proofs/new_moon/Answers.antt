@@ -1,4 +1,3 @@
-use borrow.Author.Rules.{rules}
 use native.Mathlib.Nat.{zero-add}
 use Rattle.reckoning.specs.Means.{new_moon, new_moon_rest}
 use Rattle.moon.specs.NewMoons.{new_moon_of}

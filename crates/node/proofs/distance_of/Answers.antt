@@ -1,6 +1,5 @@
 use native.Mathlib.Nat.{zero-add}
 use Rattle.node.specs.Eclipses.{distance_of}
-use borrow.Author.Rules.{rules}
 use Rattle.node.proofs.distance_of.Goals as goal
 
 pub returns : goal.returns

@@ -2,7 +2,6 @@ use native.Mathlib.Omega.{arith}
 use mathlib.Core.Path.{ap}
 use Rattle.node.specs.Eclipses.{distance_of, eclipse_at}
 use Rattle.node.specs.declared.Distance.{Distance}
-use borrow.Author.Rules.{rules}
 use Rattle.node.proofs.eclipse_at.Goals as goal
 
 pub overflow_sub-result : goal.overflow_sub-result

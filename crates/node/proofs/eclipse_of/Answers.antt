@@ -3,7 +3,6 @@ use Prim.Native.Nat.{◌-◌, ◌*◌}
 use borrow.Author.Tests.{le-leb, lt-leb}
 use Rattle.units.specs.Xinghe.{P, M}
 use Rattle.node.specs.Eclipses.{eclipse_of, no_eclipse}
-use borrow.Author.Rules.{rules}
 use Rattle.node.proofs.eclipse_of.Goals as goal
 
 pub returns-then-halves-le-P : goal.returns-then-halves-le-P

@@ -1,5 +1,4 @@
 use Rattle.node.specs.Eclipses.{node_at}
-use borrow.Author.Rules.{rules}
 use Rattle.node.proofs.node_at.Goals as goal
 
 pub returns : goal.returns

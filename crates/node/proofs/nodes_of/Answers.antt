@@ -1,8 +1,5 @@
-use native.Mathlib.Omega.{arith}
-use mathlib.Core.Path.{refl, ap}
+use mathlib.Core.Path.{refl}
 use Rattle.node.specs.Nodes.{nodes_of}
-use Rattle.node.specs.declared.passages.Passage.{Passage}
-use borrow.Author.Rules.{rules}
 use Rattle.node.proofs.nodes_of.Goals as goal
 
 pub returns : goal.returns

@@ -1,6 +1,4 @@
-use Rattle.std.proofs.Common.{◌≡◌, ◌<◌, pos, ◌-ℤ◌, refl, ap, ◌∙◌, arith, w64, to_z, of_z, rules}
-use Rattle.walking.specs.Paper.{final_month}
-use Rattle.walking.specs.declared.Steps.{Steps}
+use Rattle.std.proofs.Common.{◌<◌, arith}
 use Rattle.walking.proofs.Program.{final_below}
 use Rattle.walking.proofs.arrive.Goals as goal
 

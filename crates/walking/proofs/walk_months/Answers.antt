@@ -1,5 +1,5 @@
 -- What is left of the walk, from where the loop stands, is the whole walk.
-use Rattle.std.proofs.Common.{pos, sym, ◌∙◌, to_z-of_z, w64}
+use Rattle.std.proofs.Common.{sym, ◌∙◌, to_z-of_z, w64}
 use Rattle.walking.proofs.Program.{on_month, on_outside, at_end}
 use Rattle.walking.proofs.walk_months.Goals as goal
 

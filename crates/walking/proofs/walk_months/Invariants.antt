@@ -1,6 +1,5 @@
-use Rattle.std.proofs.Common.{◌≡◌, ◌-◌, length, get_or, pos, ◌+ℤ◌, sym, ◌∙◌, to_z-of_z, w64, rules}
-use Rattle.walking.specs.Signed.{target_of}
-use Rattle.walking.proofs.Program.{SoFar, at_start, on_month, on_outside, at_end}
+use Rattle.std.proofs.Common.{◌-◌, length}
+use Rattle.walking.proofs.Program.{SoFar}
 use Rattle.walking.proofs.walk_months.Given as goal
 
 abbrev pub invariant-loop-i : goal.invariant-loop-i

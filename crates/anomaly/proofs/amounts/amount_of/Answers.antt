@@ -6,7 +6,6 @@ use Rattle.anomaly.specs.Amounts.{sized_of, amount_of}
 use Rattle.anomaly.specs.declared.amounts.Amount.{Amount}
 use Rattle.anomaly.proofs.Whole.{sized}
 use Rattle.anomaly.proofs.Sums.{sum_small, sum_back}
-use borrow.Author.Rules.{rules}
 use Rattle.anomaly.proofs.amounts.amount_of.Goals as goal
 
 -- the sum by its sign and size, which the code holds as bits

@@ -5,7 +5,6 @@ use lib.IntN.{pos}
 use lib.ListN.{get_or}
 use Rattle.anomaly.specs.Amounts.{sized_of, correction_on}
 use Rattle.anomaly.proofs.Sums.{rate_back, amount_small, product_small}
-use borrow.Author.Rules.{rules}
 use Rattle.anomaly.proofs.amounts.correction_on.Goals as goal
 
 -- the rate by its sign and size, which the code holds as bits

@@ -1,6 +1,6 @@
 use native.Mathlib.Omega.{arith}
 use mathlib.Core.Path.{refl}
-use Prim.Native.Nat.{◌<◌, ◌≤◌}
+use Prim.Native.Nat.{◌<◌}
 use borrow.Author.Tests.{lt-ltb, le-ltb}
 use Rattle.reckoning.proofs.Moons.{moon_high}
 use Rattle.lunisolar.specs.Calendars.{means_of}

@@ -4,7 +4,6 @@ use Prim.Native.Nat.{◌<◌}
 use Rattle.lunisolar.specs.Dates.{day_for}
 use Rattle.lunisolar.specs.declared.LunationAnswer.{LunationAnswer}
 use Rattle.lunisolar.proofs.Laws.{lunations_bound}
-use borrow.Author.Rules.{rules}
 use Rattle.lunisolar.proofs.dates.day_for.Goals as goal
 
 -- the month that the match binds is one of the calendar's

@@ -6,7 +6,6 @@ use Rattle.reckoning.proofs.Moons.{moon_high}
 use Rattle.lunisolar.specs.Calendars.{means_of}
 use Rattle.lunisolar.specs.Dates.{day_in, month_days}
 use Rattle.lunisolar.proofs.Days.{next_day}
-use borrow.Author.Rules.{rules}
 use Rattle.lunisolar.proofs.dates.day_in.Goals as goal
 
 pub returns-then-day-lt1 : goal.returns-then-day-lt1

@@ -1,9 +1,6 @@
-use native.Mathlib.Omega.{arith}
 use mathlib.Core.Path.{◌∙◌}
 use Rattle.reckoning.specs.Means.{new_moon_rest}
-use Rattle.lunisolar.proofs.Laws.{product}
 use Rattle.lunisolar.proofs.Days.{length_is}
-use borrow.Author.Rules.{rules}
 use Rattle.lunisolar.proofs.means.month_length.Goals as goal
 
 pub returns : goal.returns

@@ -1,9 +1,6 @@
-use native.Mathlib.Omega.{arith}
 use mathlib.Core.Path.{sym}
 use Rattle.reckoning.proofs.Moons.{month_of_day}
 use Rattle.lunisolar.specs.Calendars.{means_of}
-use Rattle.lunisolar.proofs.Laws.{product}
-use borrow.Author.Rules.{rules}
 use Rattle.lunisolar.proofs.means.month_of_day.Goals as goal
 
 pub returns : goal.returns

@@ -1,6 +1,4 @@
-use native.Mathlib.Omega.{arith}
 use Rattle.reckoning.specs.Means.{new_moon}
-use Rattle.lunisolar.proofs.Laws.{product}
 use borrow.Author.Rules.{rules}
 use Rattle.lunisolar.proofs.means.new_moon_day.Goals as goal
 

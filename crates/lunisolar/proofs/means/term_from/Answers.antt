@@ -1,9 +1,5 @@
-use native.Mathlib.Omega.{arith}
-use Prim.Native.Nat.{◌*◌}
 use Rattle.reckoning.proofs.Days.{term_from}
 use Rattle.lunisolar.specs.Calendars.{means_of}
-use Rattle.lunisolar.proofs.Laws.{product}
-use borrow.Author.Rules.{rules}
 use Rattle.lunisolar.proofs.means.term_from.Goals as goal
 
 pub returns : goal.returns

@@ -2,7 +2,6 @@ use mathlib.Core.Path.{ap, ◌∙◌}
 use Prim.Native.Nat.{ℕ}
 use lib.Dec.{eqb}
 use Rattle.lunisolar.proofs.Figures.{at_leap}
-use borrow.Author.Rules.{rules}
 use Rattle.lunisolar.proofs.naming.leap_at.Goals as goal
 
 pub returns : goal.returns

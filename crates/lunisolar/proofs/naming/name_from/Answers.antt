@@ -16,7 +16,6 @@ use Rattle.lunisolar.specs.declared.Constants.{Constants}
 use Rattle.lunisolar.proofs.Laws.{count_bound, before_bound}
 use Rattle.lunisolar.proofs.Figures.{never_first, comes_at}
 use Rattle.lunisolar.proofs.Rounds.{name_at_lem}
-use borrow.Author.Rules.{rules}
 use Rattle.lunisolar.proofs.naming.name_from.Goals as goal
 
 -- the leap mark by two terms: that of the place comes on the next month's first day or later, and the one before came before the month

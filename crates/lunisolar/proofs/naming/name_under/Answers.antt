@@ -2,7 +2,6 @@ use native.Mathlib.Omega.{arith}
 use Prim.Native.Nat.{◌<◌}
 use Rattle.lunisolar.proofs.Laws.{count_bound}
 use Rattle.lunisolar.proofs.Rounds.{name_at_lem}
-use borrow.Author.Rules.{rules}
 use Rattle.lunisolar.proofs.naming.name_under.Goals as goal
 
 place_in : (a : goal.After-struct_known-1) → a.args.place < 13

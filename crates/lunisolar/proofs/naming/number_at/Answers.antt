@@ -4,7 +4,6 @@ use Prim.Native.Nat.{ℕ}
 use lib.Dec.{leb}
 use Rattle.reckoning.specs.Figures.{number_by}
 use Rattle.lunisolar.proofs.Figures.{from_leap}
-use borrow.Author.Rules.{rules}
 use Rattle.lunisolar.proofs.naming.number_at.Goals as goal
 
 pub returns : goal.returns

@@ -4,8 +4,6 @@ use mathlib.Core.Bool.{Bool, true, false}
 use Prim.Native.Nat.{ℕ, ◌+◌, ◌-◌, ◌%◌}
 use mir.Val.{bool_byte}
 use Rattle.reckoning.specs.Figures.{number_by}
-use Rattle.lunisolar.proofs.Figures.{one_at_most}
-use borrow.Author.Rules.{rules}
 use Rattle.lunisolar.proofs.naming.number_by.Goals as goal
 
 behind : (t : Bool) (place : ℕ) → (place + 10 - bool_byte t) % 12 + 1 ≡ number_by t place

@@ -15,7 +15,6 @@ use Rattle.lunisolar.specs.declared.Constants.{Constants}
 use Rattle.lunisolar.proofs.Laws.{laws_of, before_bound}
 use Rattle.lunisolar.proofs.Days.{next_day}
 use Rattle.lunisolar.proofs.Figures.{one_at_most, place_is}
-use borrow.Author.Rules.{rules}
 use Rattle.lunisolar.proofs.rule.leap_beside.Goals as goal
 
 room : (a : goal.Start) → a.args.before ≤ 13 * a.args.y

@@ -4,8 +4,7 @@ use Prim.Native.Nat.{◌+◌, ◌*◌, ◌≤◌}
 use mir.Val.{bool_byte}
 use Rattle.reckoning.specs.Rule.{month_count}
 use Rattle.lunisolar.specs.Calendars.{rule_of}
-use Rattle.lunisolar.proofs.Laws.{before_bound, count_by, count_bound}
-use borrow.Author.Rules.{rules}
+use Rattle.lunisolar.proofs.Laws.{before_bound, count_by}
 use Rattle.lunisolar.proofs.rule.month_count.Goals as goal
 
 room : (a : goal.Start) → a.args.before ≤ 13 * a.args.y

@@ -1,12 +1,9 @@
-use native.Mathlib.Omega.{arith}
-use mathlib.Core.Path.{◌≡◌, ap, sym, ◌∙◌}
-use Prim.Native.Nat.{ℕ, ◌*◌, ◌/◌, ◌≤◌}
-use Rattle.reckoning.specs.Means.{new_moon, term_day}
+use mathlib.Core.Path.{ap, ◌∙◌}
+use Rattle.reckoning.specs.Means.{new_moon}
 use Rattle.reckoning.specs.Dates.{month_of}
 use Rattle.reckoning.specs.Days.{by_days}
 use Rattle.lunisolar.specs.Calendars.{means_of}
-use Rattle.lunisolar.proofs.Laws.{product, solstice_day, solstice_high}
-use borrow.Author.Rules.{rules}
+use Rattle.lunisolar.proofs.Laws.{solstice_day}
 use Rattle.lunisolar.proofs.rule.months_before.Goals as goal
 
 pub returns : goal.returns

@@ -11,7 +11,6 @@ use Rattle.reckoning.specs.Means.{new_moon, term_day}
 use Rattle.reckoning.proofs.Days.{months_over, months_under}
 use Rattle.lunisolar.specs.Calendars.{means_of}
 use Rattle.lunisolar.proofs.Laws.{before_bound}
-use borrow.Author.Rules.{rules}
 use Rattle.lunisolar.proofs.rule.months_from.Goals as goal
 
 room : (a : goal.Start) → a.args.count ≤ 13 * a.args.y

@@ -1,8 +1,6 @@
 use native.Mathlib.Omega.{arith}
-use Prim.Native.Nat.{◌*◌}
-use Rattle.lunisolar.proofs.Near.{gain_some, before_room, month_room, gap_room, year_room, solstice_room, solstice_first, gap_bound, near_room, near_some, near_is}
+use Rattle.lunisolar.proofs.Near.{before_room, month_room, gap_room, solstice_first, gap_bound, near_room, near_some, near_is}
 use Rattle.lunisolar.proofs.Laws.{product}
-use borrow.Author.Rules.{rules}
 use Rattle.lunisolar.proofs.rule.near_leap.Goals as goal
 
 pub overflow_add-gap : goal.overflow_add-gap

@@ -1,7 +1,6 @@
 use native.Mathlib.Omega.{arith}
 use Rattle.reckoning.proofs.Moons.{moon_high}
 use Rattle.lunisolar.specs.Calendars.{means_of}
-use borrow.Author.Rules.{rules}
 use Rattle.lunisolar.proofs.rule.term_reaches.Goals as goal
 
 pub term_from-requires : goal.term_from-requires

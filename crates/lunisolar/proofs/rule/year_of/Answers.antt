@@ -8,7 +8,6 @@ use Rattle.reckoning.proofs.Moons.{moon_high}
 use Rattle.reckoning.proofs.Days.{year_of_month}
 use Rattle.lunisolar.specs.Calendars.{means_of}
 use Rattle.lunisolar.proofs.Laws.{product, days_climb}
-use borrow.Author.Rules.{rules}
 use Rattle.lunisolar.proofs.rule.year_of.Goals as goal
 
 -- the next month's first day

@@ -5,7 +5,6 @@ use Rattle.lunisolar.specs.Calendars.{year_at}
 use Rattle.lunisolar.specs.declared.YearAnswer.{YearAnswer}
 use Rattle.lunisolar.proofs.Laws.{year_found}
 use Rattle.mean_calendar.specs.Points.{point_for}
-use borrow.Author.Rules.{rules}
 use Rattle.mean_calendar.proofs.cuts.cut_point.Goals as goal
 
 -- the year that the match binds

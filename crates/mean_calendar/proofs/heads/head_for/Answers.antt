@@ -6,7 +6,6 @@ use Rattle.lunisolar.specs.declared.LunationAnswer.{LunationAnswer}
 use Rattle.lunisolar.proofs.Rounds.{found}
 use Rattle.mean_calendar.specs.declared.MeanHeadAnswer.{MeanHeadAnswer}
 use Rattle.mean_calendar.proofs.Found.{first_head, no_first}
-use borrow.Author.Rules.{rules}
 use Rattle.mean_calendar.proofs.heads.head_for.Goals as goal
 
 -- the first month that the match binds, and where it stands

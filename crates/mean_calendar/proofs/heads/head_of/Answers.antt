@@ -1,8 +1,5 @@
-use native.Mathlib.Omega.{arith}
 use mathlib.Core.Path.{refl}
-use Rattle.lunisolar.proofs.Laws.{product}
 use Rattle.mean_calendar.specs.Heads.{head_of}
-use borrow.Author.Rules.{rules}
 use Rattle.mean_calendar.proofs.heads.head_of.Goals as goal
 
 pub returns : goal.returns

@@ -1,7 +1,6 @@
 use native.Mathlib.Omega.{arith}
 use Rattle.lunisolar.proofs.Laws.{lunations_bound}
 use Rattle.lunisolar.proofs.Rounds.{year_in_round}
-use borrow.Author.Rules.{rules}
 use Rattle.mean_calendar.proofs.months.month_of.Goals as goal
 
 pub year_of-y-requires : goal.year_of-y-requires

@@ -1,6 +1,5 @@
 use native.Mathlib.Omega.{arith}
 use Rattle.lunisolar.proofs.Laws.{product, lunations_bound}
-use borrow.Author.Rules.{rules}
 use Rattle.mean_calendar.proofs.months.new_moon.Goals as goal
 
 pub overflow_mul-lunation : goal.overflow_mul-lunation

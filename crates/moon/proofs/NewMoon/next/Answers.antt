@@ -3,7 +3,6 @@ use native.Mathlib.Omega.{arith}
 use Prim.Native.Nat.{◌+◌, ◌*◌, ◌≤◌}
 use Rattle.units.specs.Xinghe.{N, P}
 use Rattle.moon.proofs.Addition.{length_fits, by_length}
-use borrow.Author.Rules.{rules}
 use Rattle.moon.proofs.NewMoon.next.Goals as goal
 
 -- the month's length, and that there is so much to take off

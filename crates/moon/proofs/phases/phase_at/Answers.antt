@@ -1,6 +1,5 @@
 use native.Mathlib.Nat.{zero-add}
 use Rattle.moon.specs.Phases.{phase_at}
-use borrow.Author.Rules.{rules}
 use Rattle.moon.proofs.phases.phase_at.Goals as goal
 
 pub returns : goal.returns

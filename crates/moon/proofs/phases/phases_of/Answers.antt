@@ -1,5 +1,4 @@
 use Rattle.moon.specs.Phases.{phases_of}
-use borrow.Author.Rules.{rules}
 use Rattle.moon.proofs.phases.phases_of.Goals as goal
 
 pub returns : goal.returns

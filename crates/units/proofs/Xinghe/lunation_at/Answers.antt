@@ -6,7 +6,6 @@ use Rattle.lunisolar.specs.declared.YearAnswer.{YearAnswer}
 use Rattle.lunisolar.proofs.Laws.{year_found}
 use Rattle.units.specs.Xinghe.{xinghe}
 use Rattle.units.proofs.Sound.{sound}
-use borrow.Author.Rules.{rules}
 use Rattle.units.proofs.Xinghe.lunation_at.Goals as goal
 
 -- the year that the match binds

@@ -1,5 +1,4 @@
 use Rattle.units.proofs.Sound.{sound}
-use borrow.Author.Rules.{rules}
 use Rattle.units.proofs.Xinghe.year_at.Goals as goal
 
 pub year_at-requires : goal.year_at-requires

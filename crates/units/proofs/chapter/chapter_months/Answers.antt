@@ -1,6 +1,5 @@
 use mathlib.Core.Path.{sym}
 use Rattle.units.proofs.Table.{by_chapters}
-use borrow.Author.Rules.{rules}
 use Rattle.units.proofs.chapter.chapter_months.Goals as goal
 
 pub returns : goal.returns

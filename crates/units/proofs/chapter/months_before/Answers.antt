@@ -6,7 +6,6 @@ use Rattle.units.specs.Xinghe.{chapter_months, chapter_years}
 use Rattle.units.specs.Chapter.{leap_remainder}
 use Rattle.units.proofs.Sound.{sound}
 use Rattle.units.proofs.Table.{chapter_stands, by_chapter_near}
-use borrow.Author.Rules.{rules}
 use Rattle.units.proofs.chapter.months_before.Goals as goal
 
 -- what the chapter leaves

@@ -1,5 +1,4 @@
 use Rattle.units.proofs.Sound.{sound}
-use borrow.Author.Rules.{rules}
 use Rattle.units.proofs.chapter.year_months.Goals as goal
 
 pub months_near-requires : goal.months_near-requires

@@ -1,5 +1,4 @@
 use Rattle.units.proofs.Table.{among_four}
-use borrow.Author.Rules.{rules}
 use Rattle.units.proofs.entries.entry.Goals as goal
 
 pub returns : goal.returns

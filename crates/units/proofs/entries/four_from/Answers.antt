@@ -1,6 +1,5 @@
 use mathlib.Core.Path.{sym}
 use Rattle.units.proofs.Table.{four_listed, last_two}
-use borrow.Author.Rules.{rules}
 use Rattle.units.proofs.entries.four_from.Goals as goal
 
 pub returns-then-t-eq140 : goal.returns-then-t-eq140

@@ -1,5 +1,4 @@
-use Rattle.std.proofs.Common.{◌≡◌, ℕ, ◌-◌, ◌≤◌, Bool, eqb, List, length, get_or, refl, add-one, arith}
-use Rattle.reckoning.specs.Search.{all}
+use Rattle.std.proofs.Common.{◌≡◌, length, arith}
 use Rattle.walking.specs.Fields.{same_fields}
 use Rattle.walking.proofs.fields.same_fields.Goals as goal
 

@@ -1,6 +1,5 @@
-use Rattle.std.proofs.Common.{◌≡◌, ℕ, ◌-◌, ◌≤◌, Bool, eqb, List, length, get_or, refl, add-one, arith}
+use Rattle.std.proofs.Common.{◌≡◌, ℕ, ◌-◌, ◌≤◌, Bool, eqb, List, length, get_or}
 use Rattle.reckoning.specs.Search.{all}
-use Rattle.walking.specs.Fields.{same_fields}
 use Rattle.walking.proofs.fields.same_fields.Given as goal
 
 abbrev pub same_at : List ℕ → List ℕ → ℕ → Bool

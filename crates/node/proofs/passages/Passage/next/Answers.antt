@@ -3,7 +3,6 @@ use borrow.Author.Tests.{le-leb, lt-leb}
 use Prim.Native.Nat.{◌+◌}
 use Rattle.units.specs.Xinghe.{P, M}
 use Rattle.node.specs.Passages.{next_passage}
-use borrow.Author.Rules.{rules}
 use Rattle.node.proofs.passages.Passage.next.Goals as goal
 
 pub returns-then-sum : goal.returns-then-sum

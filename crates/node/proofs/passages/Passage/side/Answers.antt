@@ -2,18 +2,15 @@ use mathlib.Core.Logic.{◌≢◌}
 use Rattle.node.specs.Passages.{passage_of}
 use Rattle.units.specs.Xinghe.{era_months}
 use mathlib.Core.Path.{◌≡◌, refl, sym, ap, ◌∙◌}
-use native.Mathlib.Omega.{arith}
 use borrow.Author.Tests.{eq-eqb, ne_eqb}
 use Prim.Native.Nat.{ℕ, ◌+◌, ◌/◌}
 use mathlib.Core.Bool.{Bool, false}
 use lib.Dec.{eqb}
 use mir.Val.{bool_byte}
-use Rattle.lunisolar.proofs.Figures.{one_at_most}
 use Rattle.node.specs.Eclipses.{since_node}
 use Rattle.node.specs.Sides.{side_of}
 use Rattle.node.specs.declared.passages.Passage.{Passage}
 use Rattle.node.proofs.Heads.{turns, side_since_origin}
-use borrow.Author.Rules.{rules}
 use Rattle.node.proofs.passages.Passage.side.Goals as goal
 
 -- the distance is the month's
