@@ -19,7 +19,6 @@ use Rattle.node.specs.declared.Side.{Side}
 use Rattle.calendar.specs.Rows.{field_count, row_fields, row_of}
 use Rattle.calendar.specs.Carries.{months, shown}
 use Rattle.calendar.specs.declared.MonthRow.{MonthRow}
-use Rattle.calendar.specs.declared.RowAnswer.{RowAnswer}
 
 -- a side is told by its number
 side_eq : (s t : Side) → side_number s ≡ side_number t → s ≡ t

@@ -26,7 +26,7 @@ use Rattle.volumes.proofs.Parts.{block_in_lem, right_at}
 use Rattle.volumes.proofs.Answered.{accepted}
 use Rattle.reigns.specs.Marked.{end_year, block_of_year, in_volume, none_below, from_last, from_both, marked_answer, marked_number}
 use Rattle.reigns.specs.declared.MarkedAnswer.{MarkedAnswer}
-use Rattle.reigns.proofs.Spans.{Inside, inside, is_inside, is_grown}
+use Rattle.reigns.proofs.Spans.{Inside, is_inside, is_grown}
 
 -- a block with a right check that holds these totals
 pub record Holds (block : List ℕ) (t : Totals) : Type 0 where

@@ -28,7 +28,7 @@ use Rattle.calendar.proofs.Round.{round_months_lem}
 use Rattle.ephemeris.specs.Jobs.{nodes_for, nodes_at}
 use Rattle.ephemeris.specs.Answers.{nodes_values}
 use Rattle.year_list.specs.Filled.{row_at}
-use Rattle.totals.specs.Totals.{months_of, marks_of, none, plus, totals}
+use Rattle.totals.specs.Totals.{months_of, marks_of, plus, totals}
 use Rattle.totals.specs.declared.Totals.{Totals}
 
 -- the year with y years past

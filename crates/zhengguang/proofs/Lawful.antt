@@ -17,7 +17,6 @@ use Rattle.mean_calendar.proofs.Lawful.{month_by}
 use Rattle.zhengguang.specs.Rows.{field_count, row_fields, row_of}
 use Rattle.zhengguang.specs.Carries.{rows, shown}
 use Rattle.zhengguang.specs.declared.ZhengguangRow.{ZhengguangRow}
-use Rattle.zhengguang.specs.declared.ZhengguangRowAnswer.{ZhengguangRowAnswer}
 
 eqb_same : (n : ℕ) → eqb n n ≡ true
 eqb_same n = eq-eqb n n refl

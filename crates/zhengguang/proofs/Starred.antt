@@ -15,7 +15,6 @@ use Rattle.mean_calendar.specs.Heads.{head_of, head_for}
 use Rattle.mean_calendar.specs.Months.{month_of, month_for}
 use Rattle.mean_calendar.specs.Cases.{All}
 use Rattle.zhengguang.specs.Zhengguang.{N, D, P, zhengguang, means, rule}
-use Rattle.zhengguang.specs.Nodes.{since_node}
 use Rattle.zhengguang.specs.Rows.{row_for}
 use Rattle.zhengguang.specs.Cases.{table, printed, ErasFrom}
 use Rattle.zhengguang.proofs.Sound.{sound}

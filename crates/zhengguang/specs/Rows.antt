@@ -9,7 +9,6 @@ use Rattle.mean_calendar.specs.declared.MeanMonth.{MeanMonth}
 use Rattle.mean_calendar.specs.declared.MeanMonthAnswer.{MeanMonthAnswer}
 use Rattle.zhengguang.specs.Zhengguang.{zhengguang, leap_remainder}
 use Rattle.zhengguang.specs.Nodes.{since_node}
-use Rattle.zhengguang.specs.declared.ZhengguangHead.{ZhengguangHead}
 use Rattle.zhengguang.specs.declared.ZhengguangHeadAnswer.{ZhengguangHeadAnswer}
 use Rattle.zhengguang.specs.declared.ZhengguangRow.{ZhengguangRow}
 use Rattle.zhengguang.specs.declared.ZhengguangRowAnswer.{ZhengguangRowAnswer}

@@ -6,7 +6,6 @@ use Rattle.calendar.specs.Heads.{year_head}
 use Rattle.calendar.specs.Answers.{head_values}
 use Rattle.calendar.specs.declared.YearHead.{YearHead}
 use Rattle.blocks.proofs.Blocks.{at_most_13, front, whole}
-use borrow.Author.Rules.{rules}
 use Rattle.blocks.proofs.fill_block.Goals as goal
 
 -- the head's values are its year's, and its months at most thirteen

@@ -1,6 +1,5 @@
 use Rattle.writing.proofs.Writings.{and_then}
 use Rattle.blocks.specs.Block.{head_bytes}
-use borrow.Author.Rules.{rules}
 use Rattle.blocks.proofs.put_head.Goals as goal
 
 pub returns : goal.returns

@@ -2,7 +2,6 @@ use native.Mathlib.Omega.{arith}
 use Rattle.writing.proofs.Writings.{and_then, wrote_to}
 use Rattle.walking.proofs.Bits.{as_number}
 use Rattle.blocks.specs.Block.{record_bytes}
-use borrow.Author.Rules.{rules}
 use Rattle.blocks.proofs.put_record.Goals as goal
 
 pub returns : goal.returns

@@ -1,8 +1,7 @@
 use native.Mathlib.Omega.{arith}
 use native.Mathlib.Numerals.{add-one}
 use mathlib.Core.Path.{◌≡◌, ap, ◌∙◌}
-use Prim.Native.Nat.{suc, ◌+◌, ◌-◌, ◌*◌, ◌≤◌, ◌<◌}
-use Rattle.writing.specs.Written.{Wrote}
+use Prim.Native.Nat.{suc, ◌+◌, ◌≤◌, ◌<◌}
 use Rattle.writing.proofs.Writings.{wrote_none, wrote_to, and_then}
 use Rattle.calendar.specs.Answers.{head_values}
 use Rattle.calendar.specs.declared.HeadAnswer.{HeadAnswer}

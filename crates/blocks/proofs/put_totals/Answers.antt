@@ -1,5 +1,4 @@
 use Rattle.blocks.specs.Block.{totals_bytes}
-use borrow.Author.Rules.{rules}
 use Rattle.blocks.proofs.put_totals.Goals as goal
 
 pub returns : goal.returns

@@ -1,4 +1,3 @@
-use borrow.Author.Rules.{rules}
 use Rattle.blocks.specs.Block.{totals_in}
 use Rattle.blocks.proofs.totals_in.Goals as goal
 

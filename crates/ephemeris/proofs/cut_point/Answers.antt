@@ -5,7 +5,6 @@ use Rattle.lunisolar.specs.declared.YearAnswer.{YearAnswer}
 use Rattle.lunisolar.proofs.Laws.{year_found}
 use Rattle.units.specs.Xinghe.{xinghe}
 use Rattle.ephemeris.specs.Jobs.{point_for}
-use borrow.Author.Rules.{rules}
 use Rattle.ephemeris.proofs.cut_point.Goals as goal
 
 -- the year that the match binds

@@ -6,7 +6,6 @@ use Rattle.units.specs.Xinghe.{xinghe}
 use Rattle.lunisolar.proofs.Rounds.{lunation_in_round}
 use Rattle.units.proofs.Sound.{sound}
 use Rattle.ephemeris.specs.Jobs.{nodes_for}
-use borrow.Author.Rules.{rules}
 use Rattle.ephemeris.proofs.nodes.Goals as goal
 
 -- the month that the match binds, which is of the round

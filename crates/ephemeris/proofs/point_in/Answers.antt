@@ -1,6 +1,5 @@
 use mathlib.Core.Path.{refl, sym}
 use Rattle.ephemeris.proofs.Points.{past, on_cut, no_cut}
-use borrow.Author.Rules.{rules}
 use Rattle.ephemeris.proofs.point_in.Goals as goal
 
 pub returns-then-cut-index : goal.returns-then-cut-index

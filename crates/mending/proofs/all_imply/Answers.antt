@@ -1,10 +1,9 @@
 use native.Mathlib.Omega.{arith}
 use native.Mathlib.Numerals.{add-one}
-use mathlib.Core.Path.{◌≡◌, refl, ap, ◌∙◌}
+use mathlib.Core.Path.{◌≡◌, ap, ◌∙◌}
 use mathlib.Core.Bool.{Bool, ◌&&◌}
-use Prim.Native.Nat.{◌+◌, ◌-◌, ◌*◌, ◌≤◌}
+use Prim.Native.Nat.{◌+◌, ◌-◌, ◌*◌}
 use Rattle.reckoning.specs.Search as search-specs
-use Rattle.volumes.proofs.Runs.{part_length}
 use Rattle.mending.specs.FirstYear.{implies_at}
 use Rattle.mending.proofs.FirstYears.{turned}
 use Rattle.mending.proofs.all_imply.Goals as goal

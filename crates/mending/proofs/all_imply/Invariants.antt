@@ -1,12 +1,7 @@
-use native.Mathlib.Omega.{arith}
-use native.Mathlib.Numerals.{add-one}
-use mathlib.Core.Path.{◌≡◌, refl, ap, ◌∙◌}
-use mathlib.Core.Bool.{Bool, ◌&&◌}
-use Prim.Native.Nat.{◌+◌, ◌-◌, ◌*◌, ◌≤◌}
+use mathlib.Core.Path.{◌≡◌}
+use Prim.Native.Nat.{◌-◌, ◌≤◌}
 use Rattle.reckoning.specs.Search as search-specs
-use Rattle.volumes.proofs.Runs.{part_length}
 use Rattle.mending.specs.FirstYear.{implies_at}
-use Rattle.mending.proofs.FirstYears.{turned}
 use Rattle.mending.proofs.all_imply.Given as goal
 
 abbrev pub invariant-loop-i : goal.invariant-loop-i

@@ -2,10 +2,9 @@ use native.Mathlib.Omega.{arith}
 use mathlib.Core.Path.{◌≡◌, sym, ◌∙◌}
 use mathlib.Core.Bool.{false}
 use mathlib.Core.Logic.{⊎_elim}
-use Prim.Native.Nat.{ℕ, ◌+◌, ◌-◌, ◌*◌, ◌≤◌, ◌<◌}
+use Prim.Native.Nat.{◌+◌, ◌-◌, ◌*◌, ◌<◌}
 use lib.Dec.{T}
 use native.Mathlib.Nat.{eq-or-lt_of_le}
-use Rattle.volumes.proofs.Runs.{part_length}
 use Rattle.mending.specs.FirstYear.{sound_at, implied_at}
 use Rattle.mending.proofs.FirstYears.{found, not_found}
 use Rattle.mending.proofs.implied_first.Goals as goal

@@ -2,7 +2,6 @@ use native.Mathlib.Omega.{arith}
 use Prim.Native.Nat.{◌+◌, ◌-◌}
 use mathlib.Core.Path.{◌≡◌, sym, ◌∙◌}
 use mathlib.Core.Bool.{true}
-use borrow.Author.Rules.{rules}
 use Rattle.volumes.specs.Volume.{is_run}
 use Rattle.volumes.proofs.Runs.{run_of}
 use Rattle.mending.proofs.is_first.Goals as goal

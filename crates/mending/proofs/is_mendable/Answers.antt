@@ -1,5 +1,4 @@
 use Rattle.mending.specs.Mended.{mendable}
-use borrow.Author.Rules.{rules}
 use Rattle.mending.proofs.is_mendable.Goals as goal
 
 pub returns : goal.returns

@@ -1,6 +1,5 @@
 use mathlib.Core.Path.{◌≡◌, sym, ap, ◌∙◌}
 use mathlib.Core.Bool.{Bool, true, false, ◌&&◌}
-use borrow.Author.Rules.{rules}
 use Rattle.units.specs.Xinghe.{is_year}
 use Rattle.blocks.specs.Check.{right_check}
 use Rattle.mending.specs.FirstYear.{year_in, sound}

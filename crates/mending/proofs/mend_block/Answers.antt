@@ -1,13 +1,9 @@
-use native.Mathlib.Omega.{arith}
 use mathlib.Core.Path.{◌≡◌, sym, ◌∙◌}
-use mathlib.Core.Bool.{true, false}
+use mathlib.Core.Bool.{true}
 use Prim.Native.Nat.{◌-◌}
 use Rattle.blocks.specs.Bytes.{same}
 use Rattle.blocks.proofs.Same.{same_eq}
-use Rattle.writing.proofs.Writings.{wrote_all}
 use Rattle.volumes.specs.Volume.{block_at}
-use Rattle.volumes.proofs.Runs.{block_at_length}
-use borrow.Author.Rules.{rules}
 use Rattle.mending.proofs.mend_block.Goals as goal
 
 pub returns-then-same_bytes : goal.returns-then-same_bytes

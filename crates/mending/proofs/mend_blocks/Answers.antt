@@ -1,11 +1,11 @@
 use native.Mathlib.Omega.{arith}
 use mathlib.Core.Path.{◌≡◌, ap, ◌∙◌}
-use Prim.Native.Nat.{ℕ, ◌+◌, ◌-◌, ◌*◌, ◌≤◌}
+use Prim.Native.Nat.{ℕ, ◌+◌, ◌-◌, ◌*◌}
 use lib.ListN.{length, take, drop}
 use Rattle.blocks.specs.Bytes.{same}
 use Rattle.volumes.specs.Volume.{block_at}
 use Rattle.volumes.proofs.Runs.{is_run_lem, part_length}
-use Rattle.mending.proofs.Notes.{differing_few, SoFar, at_start, bytes_long, list_long, on, at_end}
+use Rattle.mending.proofs.Notes.{differing_few, at_start, bytes_long, list_long, on, at_end}
 use Rattle.mending.proofs.mend_blocks.Goals as goal
 
 pub loop-i-init : goal.loop-i-init
@@ -14,10 +14,10 @@ loop-i-init c = let x = c.args in (omega arith, at_start x.volume.now x.list.now
 pub mend_block-right-requires : goal.mend_block-right-requires
 mend_block-right-requires c =
     let long : (let x = c.args in (length c.loop-i.volume ≡ length x.volume.now) × (length c.loop-i.list ≡ length x.list.now)) = let x = c.args in
-        let l = c.loop-i in (
-          bytes_long x.volume.now x.list.now x.first l.i l.count l.volume l.list l.invariant.1 (omega (arith, c.requires, l.invariant.0)),
-          list_long x.volume.now x.list.now x.first l.i l.count l.volume l.list l.invariant.1 (omega (arith, c.requires, l.invariant.0)),
-        ) in
+    let l = c.loop-i in (
+      bytes_long x.volume.now x.list.now x.first l.i l.count l.volume l.list l.invariant.1 (omega (arith, c.requires, l.invariant.0)),
+      list_long x.volume.now x.list.now x.first l.i l.count l.volume l.list l.invariant.1 (omega (arith, c.requires, l.invariant.0)),
+    ) in
     let i = c.loop-i.i in
     let first = c.args.first in (
       part_length c.loop-i.volume (512 * i) (512 * i + 512 - 512 * i) (omega arith) (omega (arith, long, c.requires.0, c.loop-i-test.true)),
@@ -27,10 +27,10 @@ mend_block-right-requires c =
 pub note-count-requires : goal.note-count-requires
 note-count-requires c =
     let long : (let x = c.args in (length c.loop-i.volume ≡ length x.volume.now) × (length c.loop-i.list ≡ length x.list.now)) = let x = c.args in
-        let l = c.loop-i in (
-          bytes_long x.volume.now x.list.now x.first l.i l.count l.volume l.list l.invariant.1 (omega (arith, c.requires, l.invariant.0)),
-          list_long x.volume.now x.list.now x.first l.i l.count l.volume l.list l.invariant.1 (omega (arith, c.requires, l.invariant.0)),
-        ) in
+    let l = c.loop-i in (
+      bytes_long x.volume.now x.list.now x.first l.i l.count l.volume l.list l.invariant.1 (omega (arith, c.requires, l.invariant.0)),
+      list_long x.volume.now x.list.now x.first l.i l.count l.volume l.list l.invariant.1 (omega (arith, c.requires, l.invariant.0)),
+    ) in
     let x = c.args in
     omega (arith, long, c.loop-i.invariant.1.count_is, differing_few x.volume.now x.first c.loop-i.i, c.requires.1, c.loop-i-test.true)
 

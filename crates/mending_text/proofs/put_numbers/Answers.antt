@@ -1,10 +1,6 @@
 use native.Mathlib.Omega.{arith}
-use mathlib.Core.Path.{◌≡◌}
-use Prim.Native.Nat.{◌-◌, ◌≤◌}
-use borrow.Author.Rules.{rules}
-use lib.ListN.{length, take, length-take}
-use lib.Seq.{take_all}
-use Rattle.writing.specs.Written.{Wrote, texts}
+use lib.ListN.{take, length-take}
+use Rattle.writing.specs.Written.{texts}
 use Rattle.writing.proofs.Writings.{wrote_none, and_then, texts_more, texts_length}
 use Rattle.year_text.proofs.Lengths.{field_length}
 use Rattle.mending_text.specs.Report.{number_line}

@@ -9,7 +9,6 @@ use Rattle.mending.specs.Mended.{damaged, mend_answer, volume_after}
 use Rattle.mending.specs.declared.MendAnswer.{MendAnswer}
 use Rattle.mending.proofs.Answered.{noted}
 use Rattle.mending_text.specs.Report.{number_line, lines_for, volume_for}
-use borrow.Author.Rules.{rules}
 use Rattle.mending_text.proofs.render.Goals as goal
 
 pub slice_bounds-list-end : goal.slice_bounds-list-end

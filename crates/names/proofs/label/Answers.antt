@@ -1,6 +1,5 @@
-use mathlib.Core.Path.{◌≡◌, refl, sym, subst, ◌∙◌}
+use mathlib.Core.Path.{◌≡◌, sym, subst, ◌∙◌}
 use native.Mathlib.Omega.{arith}
-use borrow.Author.Rules.{rules}
 use Rattle.names.specs.Names.{list_bytes, Bytes, bytes_of, size, label_location}
 use Rattle.names.specs.declared.LocationAnswer.{LocationAnswer}
 use Rattle.names.proofs.Locations.{Fits, location_fits}
@@ -12,7 +11,7 @@ overflow_add-result c =
     let house-of : Bytes = bytes_of c.args.house in
     let is_found : label_location c.args.day (theirs-of) (house-of) ≡ LocationAnswer.Answered c.in-Answered.location = sym c.label_location.ensures ∙ c.in-Answered.is in
     let fits : Fits (LocationAnswer.Answered c.in-Answered.location) (theirs-of) (house-of) = subst (λ (p : LocationAnswer). Fits p (theirs-of) (house-of)) (is_found)
-        (location_fits c.args.day (theirs-of) (house-of)) in
+    (location_fits c.args.day (theirs-of) (house-of)) in
     omega (arith, (fits).0)
 
 pub slice_bounds-result-end : goal.slice_bounds-result-end
@@ -21,7 +20,7 @@ slice_bounds-result-end c =
     let house-of : Bytes = bytes_of c.args.house in
     let is_found : label_location c.args.day (theirs-of) (house-of) ≡ LocationAnswer.Answered c.in-Answered.location = sym c.label_location.ensures ∙ c.in-Answered.is in
     let fits : Fits (LocationAnswer.Answered c.in-Answered.location) (theirs-of) (house-of) = subst (λ (p : LocationAnswer). Fits p (theirs-of) (house-of)) (is_found)
-        (location_fits c.args.day (theirs-of) (house-of)) in
+    (location_fits c.args.day (theirs-of) (house-of)) in
     let f = fits in
     let e : size (theirs-of) ≡ list_bytes = rw c.in-Theirs.is at f.1 in
     omega (arith, f.0, e)
@@ -32,7 +31,7 @@ overflow_add-result-in-House c =
     let house-of : Bytes = bytes_of c.args.house in
     let is_found : label_location c.args.day (theirs-of) (house-of) ≡ LocationAnswer.Answered c.in-Answered.location = sym c.label_location.ensures ∙ c.in-Answered.is in
     let fits : Fits (LocationAnswer.Answered c.in-Answered.location) (theirs-of) (house-of) = subst (λ (p : LocationAnswer). Fits p (theirs-of) (house-of)) (is_found)
-        (location_fits c.args.day (theirs-of) (house-of)) in
+    (location_fits c.args.day (theirs-of) (house-of)) in
     omega (arith, (fits).0)
 
 pub slice_bounds-result-end-in-House : goal.slice_bounds-result-end-in-House
@@ -41,7 +40,7 @@ slice_bounds-result-end-in-House c =
     let theirs-of : Bytes = bytes_of c.args.theirs in
     let is_found : label_location c.args.day (theirs-of) (house-of) ≡ LocationAnswer.Answered c.in-Answered.location = sym c.label_location.ensures ∙ c.in-Answered.is in
     let fits : Fits (LocationAnswer.Answered c.in-Answered.location) (theirs-of) (house-of) = subst (λ (p : LocationAnswer). Fits p (theirs-of) (house-of)) (is_found)
-        (location_fits c.args.day (theirs-of) (house-of)) in
+    (location_fits c.args.day (theirs-of) (house-of)) in
     let f = fits in
     let e : size (house-of) ≡ list_bytes = rw c.in-House.is at f.1 in
     omega (arith, f.0, e)

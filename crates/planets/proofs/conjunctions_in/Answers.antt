@@ -3,7 +3,6 @@ use lib.Dec.{T}
 use Rattle.reckoning.proofs.Searches.{T_true, between_T, below, beyond}
 use Rattle.planets.specs.Planets.{is_planet}
 use Rattle.planets.specs.Jobs.{conjunctions_in}
-use Rattle.planets.proofs.Five.{planet_sound}
 use Rattle.planets.proofs.conjunctions_in.Goals as goal
 
 -- the planet is one of the five

@@ -1,6 +1,5 @@
 use Rattle.planets.specs.Jobs.{stages_at}
 use Rattle.planets.proofs.Decoded.{stages_again, small_rows}
-use borrow.Author.Rules.{rules}
 use Rattle.planets.proofs.stages.Goals as goal
 
 pub stages_of-stages-requires : goal.stages_of-stages-requires

@@ -6,7 +6,6 @@ use Rattle.reckoning.proofs.Searches.{both_right}
 use Rattle.blocks.specs.Check.{right_check}
 use Rattle.reigns.specs.Marked.{from_both}
 use Rattle.reigns.proofs.Spans.{Grown, grown}
-use borrow.Author.Rules.{rules}
 use Rattle.reigns.proofs.from_both.Goals as goal
 
 -- no later total is below the earlier one

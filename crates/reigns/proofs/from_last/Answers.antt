@@ -1,4 +1,3 @@
-use borrow.Author.Rules.{rules}
 use Rattle.reigns.specs.Marked.{from_last}
 use Rattle.reigns.proofs.from_last.Goals as goal
 

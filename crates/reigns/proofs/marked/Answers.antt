@@ -2,13 +2,12 @@ use native.Mathlib.Omega.{arith}
 use mathlib.Core.Path.{◌≡◌, sym, ◌∙◌}
 use mathlib.Core.Bool.{true}
 use Prim.Native.Nat.{ℕ, ◌+◌, ◌-◌, ◌*◌, ◌/◌, ◌%◌}
-use borrow.Author.Tests.{eq-eqb, ne_eqb, not-true, not-false}
+use borrow.Author.Tests.{eq-eqb, ne_eqb}
 use lib.ListN.{length, take, drop}
 use Rattle.volumes.specs.Reader.{whole_blocks}
 use Rattle.volumes.proofs.Answered.{whole}
 use Rattle.reigns.specs.Marked.{in_volume, from_both, marked_answer}
 use Rattle.reigns.proofs.Spans.{Inside, inside}
-use borrow.Author.Rules.{rules}
 use Rattle.reigns.proofs.marked.Goals as goal
 
 record Span (bytes first from to : ℕ) : Type 0 where
@@ -35,11 +34,11 @@ overflow_sub-last c =
     let blocks : whole_blocks (length c.args.volume.now) ≡ true = sym c.whole_blocks.ensures ∙ c.if-not-whole_blocks.false in
     let years : (let x = c.args in let first = c.u32_at-first.result in in_volume first (first + length x.volume.now / 512) x.from x.to ≡ true) = sym c.in_volume.ensures ∙ c.if-not-in_volume.false in
     let span : (let x = c.args in Span (length x.volume.now) c.u32_at-first.result x.from x.to) = let x = c.args in
-        let first = c.u32_at-first.result in
-        record {
-          whole = (whole (length x.volume.now) (rw blocks tt)).1;
-          years = inside first (first + length x.volume.now / 512) x.from x.to (rw years tt);
-        } in
+    let first = c.u32_at-first.result in
+    record {
+      whole = (whole (length x.volume.now) (rw blocks tt)).1;
+      years = inside first (first + length x.volume.now / 512) x.from x.to (rw years tt);
+    } in
     omega (arith, span)
 
 pub overflow_mul-last : goal.overflow_mul-last
@@ -47,11 +46,11 @@ overflow_mul-last c =
     let blocks : whole_blocks (length c.args.volume.now) ≡ true = sym c.whole_blocks.ensures ∙ c.if-not-whole_blocks.false in
     let years : (let x = c.args in let first = c.u32_at-first.result in in_volume first (first + length x.volume.now / 512) x.from x.to ≡ true) = sym c.in_volume.ensures ∙ c.if-not-in_volume.false in
     let span : (let x = c.args in Span (length x.volume.now) c.u32_at-first.result x.from x.to) = let x = c.args in
-        let first = c.u32_at-first.result in
-        record {
-          whole = (whole (length x.volume.now) (rw blocks tt)).1;
-          years = inside first (first + length x.volume.now / 512) x.from x.to (rw years tt);
-        } in
+    let first = c.u32_at-first.result in
+    record {
+      whole = (whole (length x.volume.now) (rw blocks tt)).1;
+      years = inside first (first + length x.volume.now / 512) x.from x.to (rw years tt);
+    } in
     omega (arith, span)
 
 pub overflow_add-last_end : goal.overflow_add-last_end
@@ -59,11 +58,11 @@ overflow_add-last_end c =
     let blocks : whole_blocks (length c.args.volume.now) ≡ true = sym c.whole_blocks.ensures ∙ c.if-not-whole_blocks.false in
     let years : (let x = c.args in let first = c.u32_at-first.result in in_volume first (first + length x.volume.now / 512) x.from x.to ≡ true) = sym c.in_volume.ensures ∙ c.if-not-in_volume.false in
     let span : (let x = c.args in Span (length x.volume.now) c.u32_at-first.result x.from x.to) = let x = c.args in
-        let first = c.u32_at-first.result in
-        record {
-          whole = (whole (length x.volume.now) (rw blocks tt)).1;
-          years = inside first (first + length x.volume.now / 512) x.from x.to (rw years tt);
-        } in
+    let first = c.u32_at-first.result in
+    record {
+      whole = (whole (length x.volume.now) (rw blocks tt)).1;
+      years = inside first (first + length x.volume.now / 512) x.from x.to (rw years tt);
+    } in
     omega (arith, span)
 
 pub slice_bounds-from_last-end : goal.slice_bounds-from_last-end
@@ -71,11 +70,11 @@ slice_bounds-from_last-end c =
     let blocks : whole_blocks (length c.args.volume.now) ≡ true = sym c.whole_blocks.ensures ∙ c.if-not-whole_blocks.false in
     let years : (let x = c.args in let first = c.u32_at-first.result in in_volume first (first + length x.volume.now / 512) x.from x.to ≡ true) = sym c.in_volume.ensures ∙ c.if-not-in_volume.false in
     let span : (let x = c.args in Span (length x.volume.now) c.u32_at-first.result x.from x.to) = let x = c.args in
-        let first = c.u32_at-first.result in
-        record {
-          whole = (whole (length x.volume.now) (rw blocks tt)).1;
-          years = inside first (first + length x.volume.now / 512) x.from x.to (rw years tt);
-        } in
+    let first = c.u32_at-first.result in
+    record {
+      whole = (whole (length x.volume.now) (rw blocks tt)).1;
+      years = inside first (first + length x.volume.now / 512) x.from x.to (rw years tt);
+    } in
     omega (arith, span)
 
 pub returns-then-from-first : goal.returns-then-from-first
@@ -95,11 +94,11 @@ overflow_sub-before c =
     let blocks : whole_blocks (length c.args.volume.now) ≡ true = sym c.whole_blocks.ensures ∙ c.if-not-whole_blocks.false in
     let years : (let x = c.args in let first = c.u32_at-first.result in in_volume first (first + length x.volume.now / 512) x.from x.to ≡ true) = sym c.in_volume.ensures ∙ c.if-not-in_volume.false in
     let span : (let x = c.args in Span (length x.volume.now) c.u32_at-first.result x.from x.to) = let x = c.args in
-        let first = c.u32_at-first.result in
-        record {
-          whole = (whole (length x.volume.now) (rw blocks tt)).1;
-          years = inside first (first + length x.volume.now / 512) x.from x.to (rw years tt);
-        } in
+    let first = c.u32_at-first.result in
+    record {
+      whole = (whole (length x.volume.now) (rw blocks tt)).1;
+      years = inside first (first + length x.volume.now / 512) x.from x.to (rw years tt);
+    } in
     omega (arith, span)
 
 pub overflow_sub-before-2 : goal.overflow_sub-before-2
@@ -107,11 +106,11 @@ overflow_sub-before-2 c =
     let blocks : whole_blocks (length c.args.volume.now) ≡ true = sym c.whole_blocks.ensures ∙ c.if-not-whole_blocks.false in
     let years : (let x = c.args in let first = c.u32_at-first.result in in_volume first (first + length x.volume.now / 512) x.from x.to ≡ true) = sym c.in_volume.ensures ∙ c.if-not-in_volume.false in
     let span : (let x = c.args in Span (length x.volume.now) c.u32_at-first.result x.from x.to) = let x = c.args in
-        let first = c.u32_at-first.result in
-        record {
-          whole = (whole (length x.volume.now) (rw blocks tt)).1;
-          years = inside first (first + length x.volume.now / 512) x.from x.to (rw years tt);
-        } in
+    let first = c.u32_at-first.result in
+    record {
+      whole = (whole (length x.volume.now) (rw blocks tt)).1;
+      years = inside first (first + length x.volume.now / 512) x.from x.to (rw years tt);
+    } in
     omega (arith, span)
 
 pub overflow_mul-before : goal.overflow_mul-before
@@ -119,11 +118,11 @@ overflow_mul-before c =
     let blocks : whole_blocks (length c.args.volume.now) ≡ true = sym c.whole_blocks.ensures ∙ c.if-not-whole_blocks.false in
     let years : (let x = c.args in let first = c.u32_at-first.result in in_volume first (first + length x.volume.now / 512) x.from x.to ≡ true) = sym c.in_volume.ensures ∙ c.if-not-in_volume.false in
     let span : (let x = c.args in Span (length x.volume.now) c.u32_at-first.result x.from x.to) = let x = c.args in
-        let first = c.u32_at-first.result in
-        record {
-          whole = (whole (length x.volume.now) (rw blocks tt)).1;
-          years = inside first (first + length x.volume.now / 512) x.from x.to (rw years tt);
-        } in
+    let first = c.u32_at-first.result in
+    record {
+      whole = (whole (length x.volume.now) (rw blocks tt)).1;
+      years = inside first (first + length x.volume.now / 512) x.from x.to (rw years tt);
+    } in
     omega (arith, span)
 
 pub overflow_add-before_end : goal.overflow_add-before_end
@@ -131,11 +130,11 @@ overflow_add-before_end c =
     let blocks : whole_blocks (length c.args.volume.now) ≡ true = sym c.whole_blocks.ensures ∙ c.if-not-whole_blocks.false in
     let years : (let x = c.args in let first = c.u32_at-first.result in in_volume first (first + length x.volume.now / 512) x.from x.to ≡ true) = sym c.in_volume.ensures ∙ c.if-not-in_volume.false in
     let span : (let x = c.args in Span (length x.volume.now) c.u32_at-first.result x.from x.to) = let x = c.args in
-        let first = c.u32_at-first.result in
-        record {
-          whole = (whole (length x.volume.now) (rw blocks tt)).1;
-          years = inside first (first + length x.volume.now / 512) x.from x.to (rw years tt);
-        } in
+    let first = c.u32_at-first.result in
+    record {
+      whole = (whole (length x.volume.now) (rw blocks tt)).1;
+      years = inside first (first + length x.volume.now / 512) x.from x.to (rw years tt);
+    } in
     omega (arith, span)
 
 pub slice_bounds-from_both-end : goal.slice_bounds-from_both-end
@@ -143,11 +142,11 @@ slice_bounds-from_both-end c =
     let blocks : whole_blocks (length c.args.volume.now) ≡ true = sym c.whole_blocks.ensures ∙ c.if-not-whole_blocks.false in
     let years : (let x = c.args in let first = c.u32_at-first.result in in_volume first (first + length x.volume.now / 512) x.from x.to ≡ true) = sym c.in_volume.ensures ∙ c.if-not-in_volume.false in
     let span : (let x = c.args in Span (length x.volume.now) c.u32_at-first.result x.from x.to) = let x = c.args in
-        let first = c.u32_at-first.result in
-        record {
-          whole = (whole (length x.volume.now) (rw blocks tt)).1;
-          years = inside first (first + length x.volume.now / 512) x.from x.to (rw years tt);
-        } in
+    let first = c.u32_at-first.result in
+    record {
+      whole = (whole (length x.volume.now) (rw blocks tt)).1;
+      years = inside first (first + length x.volume.now / 512) x.from x.to (rw years tt);
+    } in
     omega (arith, span)
 
 pub slice_bounds-from_both-end-2 : goal.slice_bounds-from_both-end-2
@@ -155,11 +154,11 @@ slice_bounds-from_both-end-2 c =
     let blocks : whole_blocks (length c.args.volume.now) ≡ true = sym c.whole_blocks.ensures ∙ c.if-not-whole_blocks.false in
     let years : (let x = c.args in let first = c.u32_at-first.result in in_volume first (first + length x.volume.now / 512) x.from x.to ≡ true) = sym c.in_volume.ensures ∙ c.if-not-in_volume.false in
     let span : (let x = c.args in Span (length x.volume.now) c.u32_at-first.result x.from x.to) = let x = c.args in
-        let first = c.u32_at-first.result in
-        record {
-          whole = (whole (length x.volume.now) (rw blocks tt)).1;
-          years = inside first (first + length x.volume.now / 512) x.from x.to (rw years tt);
-        } in
+    let first = c.u32_at-first.result in
+    record {
+      whole = (whole (length x.volume.now) (rw blocks tt)).1;
+      years = inside first (first + length x.volume.now / 512) x.from x.to (rw years tt);
+    } in
     omega (arith, span)
 
 pub returns : goal.returns

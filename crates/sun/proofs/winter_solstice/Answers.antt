@@ -1,4 +1,3 @@
-use borrow.Author.Rules.{rules}
 use native.Mathlib.Nat.{zero-add}
 use Rattle.sun.specs.Solstices.{solstice_of}
 use Rattle.sun.proofs.winter_solstice.Goals as goal

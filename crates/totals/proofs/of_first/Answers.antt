@@ -1,7 +1,6 @@
 use native.Mathlib.Omega.{arith}
 use Prim.Native.Nat.{◌-◌, ◌*◌}
 use mathlib.Core.Path.{◌≡◌}
-use borrow.Author.Rules.{rules}
 use Rattle.totals.specs.Totals.{totals}
 use Rattle.totals.proofs.Years.{OfFirst, of_first, months_in_round}
 use Rattle.totals.proofs.of_first.Goals as goal

@@ -1,6 +1,5 @@
 use native.Mathlib.Omega.{arith}
 use Rattle.volumes.proofs.Runs.{run_of}
-use borrow.Author.Rules.{rules}
 use Rattle.volumes.proofs.block.Goals as goal
 
 pub before-requires : goal.before-requires

@@ -1,5 +1,4 @@
 use Rattle.volumes.specs.Volume.{is_run}
-use borrow.Author.Rules.{rules}
 use Rattle.volumes.proofs.is_run.Goals as goal
 
 pub returns : goal.returns

@@ -1,6 +1,5 @@
 use mathlib.Core.Path.{refl}
 use Rattle.reckoning.specs.Search.{between}
-use borrow.Author.Rules.{rules}
 use Rattle.volumes.proofs.is_year.Goals as goal
 
 pub returns : goal.returns

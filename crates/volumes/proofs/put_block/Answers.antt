@@ -5,7 +5,6 @@ use Rattle.calendar.proofs.Round.{year_headed}
 use Rattle.volumes.specs.Volume.{Run}
 use Rattle.volumes.proofs.Runs.{run_of, year_in_lem, block_of_lem}
 use native.Mathlib.Omega.{arith}
-use borrow.Author.Rules.{rules}
 use Rattle.volumes.proofs.put_block.Goals as goal
 
 -- the years are a run of the round's

@@ -3,7 +3,6 @@ use mathlib.Core.List.{List}
 use Prim.Native.Nat.{ℕ}
 use Rattle.walk.specs.Walked.{walk_answer_fields}
 use Rattle.walk.proofs.HandedIn.{walk_handed_in}
-use borrow.Author.Rules.{rules}
 use Rattle.walk.proofs.walk.Goals as goal
 
 pub returns : goal.returns

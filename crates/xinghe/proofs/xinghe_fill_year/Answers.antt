@@ -1,6 +1,5 @@
-use borrow.Author.Rules.{rules}
 use mathlib.Core.Path.{◌≡◌, refl, ap, ◌∙◌}
-use Prim.Native.Nat.{suc, ◌+◌, ◌-◌, ◌*◌, ◌/◌, ◌<◌, ◌≤◌}
+use Prim.Native.Nat.{suc, ◌+◌, ◌/◌, ◌<◌}
 use native.Mathlib.Omega.{arith}
 use lib.ListN.{length}
 use Rattle.units.specs.Xinghe.{round_months}
@@ -10,10 +9,10 @@ use Rattle.calendar.specs.Elements.{elements_of, next_elements}
 use Rattle.calendar.specs.Answers.{head_values}
 use Rattle.calendar.specs.declared.HeadAnswer.{HeadAnswer}
 use Rattle.calendar.proofs.Steps.{next_elements_lem, elements_bound, head_before}
-use Rattle.year_list.specs.Filled.{rows_from, written, fill_number}
+use Rattle.year_list.specs.Filled.{rows_from, written}
 use Rattle.year_list.proofs.Fronts.{below_months, month_in_round}
-use Rattle.xinghe.specs.Years.{rows_fields, answer_in, fill_answer_in, front_fields}
-use Rattle.xinghe.proofs.Fronts.{holds, as_long, one_more}
+use Rattle.xinghe.specs.Years.{rows_fields, answer_in, fill_answer_in}
+use Rattle.xinghe.proofs.Fronts.{holds, one_more}
 use Rattle.xinghe.proofs.xinghe_fill_year.Goals as goal
 
 pub first_elements-elements-requires : goal.first_elements-elements-requires
@@ -37,14 +36,14 @@ pub fields_at-requires : goal.fields_at-requires
 fields_at-requires c =
     let headed : c.year_head-head.result ≡ year_head c.args.year = c.year_head-head.ensures in
     let place : (c.loop-i.i < (head_values c.year_head-head.result).months) = let n : c.count-n.result ≡ written (answer_in c.year_head-head.result (length c.args.out.now)) = c.count-n.ensures ∙ ap written c.answer_in-answer.ensures in
-        below_months c.year_head-head.result (length c.args.out.now / field_count) c.loop-i.i (omega (arith, n, c.loop-i-test.true)) in
+    below_months c.year_head-head.result (length c.args.out.now / field_count) c.loop-i.i (omega (arith, n, c.loop-i-test.true)) in
     (headed, place, c.loop-i.invariant.3)
 
 pub next-elements-requires : goal.next-elements-requires
 next-elements-requires c =
     let headed : c.year_head-head.result ≡ year_head c.args.year = c.year_head-head.ensures in
     let place : (c.loop-i.i < (head_values c.year_head-head.result).months) = let n : c.count-n.result ≡ written (answer_in c.year_head-head.result (length c.args.out.now)) = c.count-n.ensures ∙ ap written c.answer_in-answer.ensures in
-        below_months c.year_head-head.result (length c.args.out.now / field_count) c.loop-i.i (omega (arith, n, c.loop-i-test.true)) in
+    below_months c.year_head-head.result (length c.args.out.now / field_count) c.loop-i.i (omega (arith, n, c.loop-i-test.true)) in
     let x = c.year_head-head.result in
     rw c.loop-i.invariant.3 (elements_bound ((head_values x).before + c.loop-i.i) (month_in_round c.args.year x c.loop-i.i headed place))
 

@@ -1,19 +1,10 @@
-use borrow.Author.Rules.{rules}
-use mathlib.Core.Path.{◌≡◌, refl, ap, ◌∙◌}
-use Prim.Native.Nat.{suc, ◌+◌, ◌-◌, ◌*◌, ◌/◌, ◌<◌, ◌≤◌}
-use native.Mathlib.Omega.{arith}
+use mathlib.Core.Path.{◌≡◌}
+use Prim.Native.Nat.{◌+◌, ◌-◌, ◌*◌, ◌≤◌}
 use lib.ListN.{length}
-use Rattle.units.specs.Xinghe.{round_months}
-use Rattle.calendar.specs.Heads.{year_head}
 use Rattle.calendar.specs.Rows.{field_count}
-use Rattle.calendar.specs.Elements.{elements_of, next_elements}
+use Rattle.calendar.specs.Elements.{elements_of}
 use Rattle.calendar.specs.Answers.{head_values}
-use Rattle.calendar.specs.declared.HeadAnswer.{HeadAnswer}
-use Rattle.calendar.proofs.Steps.{next_elements_lem, elements_bound, head_before}
-use Rattle.year_list.specs.Filled.{rows_from, written, fill_number}
-use Rattle.year_list.proofs.Fronts.{below_months, month_in_round}
-use Rattle.xinghe.specs.Years.{rows_fields, answer_in, fill_answer_in, front_fields}
-use Rattle.xinghe.proofs.Fronts.{holds, as_long, one_more}
+use Rattle.xinghe.specs.Years.{front_fields}
 use Rattle.xinghe.proofs.xinghe_fill_year.Given as goal
 
 -- so many rows are written, and the elements are those of the next month's new moon

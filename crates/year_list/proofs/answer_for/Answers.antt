@@ -1,7 +1,6 @@
 use native.Mathlib.Omega.{arith}
 use borrow.Author.Tests.{le-leb, lt-leb}
 use Rattle.year_list.specs.Filled.{answer_for}
-use borrow.Author.Rules.{rules}
 use Rattle.year_list.proofs.answer_for.Goals as goal
 
 pub returns-then-head-have : goal.returns-then-head-have

@@ -1,7 +1,6 @@
 -- The first i places of the list have the year's rows, and the others are as they were lent.
 use Prim.Native.Nat.{◌-◌, ◌≤◌}
 use mathlib.Core.Path.{◌≡◌}
-use Rattle.year_list.specs.Filled.{to_write}
 use Rattle.year_list.proofs.Fronts.{front}
 use Rattle.year_list.proofs.fill_under.Given as goal
 

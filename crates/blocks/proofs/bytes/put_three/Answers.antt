@@ -1,6 +1,5 @@
 use native.Mathlib.Omega.{arith}
 use Rattle.writing.proofs.Writings.{and_then, and_at, wrote_to}
-use borrow.Author.Rules.{rules}
 use Rattle.blocks.proofs.bytes.put_three.Goals as goal
 
 pub returns : goal.returns

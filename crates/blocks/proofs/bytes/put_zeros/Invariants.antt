@@ -1,10 +1,5 @@
-use Rattle.writing.proofs.Writings.{wrote_none, wrote_to}
-use Rattle.blocks.proofs.Zeros.{zero_more}
 use Rattle.writing.specs.Written.{Wrote}
 use Rattle.blocks.specs.Bytes.{zeros}
-use native.Mathlib.Omega.{arith}
-use native.Mathlib.Nat.{add-zero}
-use mathlib.Core.Path.{◌≡◌, sym}
 use Prim.Native.Nat.{◌+◌, ◌-◌, ◌≤◌}
 use Rattle.blocks.proofs.bytes.put_zeros.Given as goal
 

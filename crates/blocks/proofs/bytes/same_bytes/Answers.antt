@@ -1,11 +1,7 @@
 use Rattle.blocks.proofs.Same.{same_more}
 use Rattle.blocks.specs.Bytes.{same}
-use lib.Seq.{take_all}
-use lib.ListN.{length, take}
-use borrow.Author.Rules.{rules}
 use native.Mathlib.Omega.{arith}
-use mathlib.Core.Path.{◌≡◌, refl}
-use Prim.Native.Nat.{◌-◌, ◌≤◌}
+use mathlib.Core.Path.{refl}
 use Rattle.blocks.proofs.bytes.same_bytes.Goals as goal
 
 pub loop-i-init : goal.loop-i-init

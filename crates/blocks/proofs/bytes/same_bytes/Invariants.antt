@@ -1,10 +1,6 @@
-use Rattle.blocks.proofs.Same.{same_more}
 use Rattle.blocks.specs.Bytes.{same}
-use lib.Seq.{take_all}
 use lib.ListN.{length, take}
-use borrow.Author.Rules.{rules}
-use native.Mathlib.Omega.{arith}
-use mathlib.Core.Path.{◌≡◌, refl}
+use mathlib.Core.Path.{◌≡◌}
 use Prim.Native.Nat.{◌-◌, ◌≤◌}
 use Rattle.blocks.proofs.bytes.same_bytes.Given as goal
 

@@ -4,7 +4,6 @@ use mathlib.Core.List.{List}
 use Prim.Native.Nat.{ℕ, ◌+◌}
 use lib.ListN.{length, take, drop, length-drop}
 use lib.Seq.{length-take-le, take-add}
-use borrow.Author.Rules.{rules}
 use Rattle.blocks.specs.Check.{weighted, right_check}
 use Rattle.blocks.proofs.Sums.{sum_append}
 use Rattle.blocks.proofs.check.right_check.Goals as goal

@@ -1,11 +1,7 @@
-use native.Mathlib.Omega.{arith}
-use mathlib.Core.Path.{◌≡◌, refl}
+use mathlib.Core.Path.{◌≡◌}
 use Prim.Native.Nat.{◌+◌, ◌-◌, ◌*◌, ◌≤◌}
-use lib.ListN.{length, take, get_or}
-use lib.Seq.{take_all}
-use borrow.Author.Rules.{rules}
+use lib.ListN.{length, take}
 use Rattle.blocks.specs.Check.{weighted}
-use Rattle.blocks.proofs.Sums.{sum_more}
 use Rattle.blocks.proofs.check.weigh.Given as goal
 
 abbrev pub invariant-loop-i : goal.invariant-loop-i

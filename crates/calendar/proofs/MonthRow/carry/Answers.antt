@@ -1,6 +1,5 @@
 use mathlib.Core.Path.{refl}
 use mir.Facts.{to_z-of_z}
-use borrow.Author.Rules.{rules}
 use Rattle.calendar.proofs.MonthRow.carry.Goals as goal
 
 pub returns : goal.returns

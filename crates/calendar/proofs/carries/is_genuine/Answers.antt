@@ -2,10 +2,9 @@ use mathlib.Core.Path.{◌≡◌, ◌∙◌, sym, ap}
 use Prim.Native.Nat.{ℕ}
 use lib.ListN.{length}
 use Rattle.walking.specs.Fields.{named_month, same_fields}
-use Rattle.walking.proofs.Program.{far, near}
+use Rattle.walking.proofs.Program.{near}
 use Rattle.units.specs.Xinghe.{round_months}
 use Rattle.calendar.specs.Rows.{field_count, row_fields, row_of}
-use borrow.Author.Rules.{rules}
 use Rattle.calendar.proofs.carries.is_genuine.Goals as goal
 
 pub returns : goal.returns

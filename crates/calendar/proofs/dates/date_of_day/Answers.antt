@@ -6,7 +6,6 @@ use Rattle.lunisolar.specs.Dates.{date_of_day}
 use Rattle.lunisolar.proofs.Rounds.{month_in_round, year_in_round}
 use Rattle.units.specs.Xinghe.{xinghe, round_months, round_days}
 use Rattle.units.proofs.Sound.{sound}
-use borrow.Author.Rules.{rules}
 use Rattle.calendar.proofs.dates.date_of_day.Goals as goal
 
 -- the month is one of the round's

@@ -1,7 +1,6 @@
 use Rattle.lunisolar.proofs.Rounds.{in_calendar}
 use Rattle.units.specs.Xinghe.{xinghe}
 use Rattle.units.proofs.Sound.{sound}
-use borrow.Author.Rules.{rules}
 use Rattle.calendar.proofs.dates.day_of_date.Goals as goal
 
 pub day_for-requires : goal.day_for-requires

@@ -1,6 +1,5 @@
 use mathlib.Core.Path.{refl}
 use Rattle.calendar.specs.Heads.{head_of}
-use borrow.Author.Rules.{rules}
 use Rattle.calendar.proofs.heads.head_of.Goals as goal
 
 pub returns : goal.returns

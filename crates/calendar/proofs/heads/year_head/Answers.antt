@@ -5,7 +5,6 @@ use Rattle.lunisolar.specs.declared.YearAnswer.{YearAnswer}
 use Rattle.lunisolar.proofs.Laws.{year_found}
 use Rattle.units.specs.Xinghe.{xinghe}
 use Rattle.calendar.specs.Heads.{head_for}
-use borrow.Author.Rules.{rules}
 use Rattle.calendar.proofs.heads.year_head.Goals as goal
 
 -- the year that the match binds

@@ -7,7 +7,6 @@ use Rattle.units.specs.Xinghe.{xinghe}
 use Rattle.calendar.specs.Rows.{row_for}
 use Rattle.lunisolar.proofs.Rounds.{found, in_round_lem, stands_year}
 use Rattle.units.proofs.Sound.{sound}
-use borrow.Author.Rules.{rules}
 use Rattle.calendar.proofs.rows.month_row.Goals as goal
 
 -- the month that the match binds

@@ -15,7 +15,6 @@ use Rattle.units.proofs.Sound.{sound, laws}
 use Rattle.moon.specs.NewMoons.{new_moon_of, length_of}
 use Rattle.calendar.specs.Rows.{row_of}
 use Rattle.calendar.proofs.Round.{row_day, row_end}
-use borrow.Author.Rules.{rules}
 use Rattle.calendar.proofs.rows.row_from.Goals as goal
 
 from : (a : goal.After-length_of) → a.args.before ≤ a.args.lunation

@@ -1,5 +1,4 @@
-use native.Mathlib.Omega.{arith}
-use mathlib.Core.Path.{◌≡◌, refl, ap}
+use mathlib.Core.Path.{◌≡◌, refl}
 use Prim.Native.Nat.{◌*◌}
 use Rattle.reckoning.specs.Means.{new_moon, new_moon_rest}
 use Rattle.lunisolar.specs.Dates.{month_days}
@@ -12,8 +11,6 @@ use Rattle.units.proofs.Sound.{sound}
 use Rattle.moon.specs.NewMoons.{new_moon_of, length_of}
 use Rattle.anomaly.proofs.Steps.{into_is_anomaly}
 use Rattle.calendar.specs.Rows.{row_of}
-use Rattle.calendar.specs.declared.elements.Elements.{Elements}
-use borrow.Author.Rules.{rules}
 use Rattle.calendar.proofs.rows.row_named.Goals as goal
 
 -- the new moon that is at hand is the month's

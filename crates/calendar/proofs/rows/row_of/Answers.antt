@@ -2,7 +2,6 @@ use native.Mathlib.Omega.{arith}
 use Rattle.lunisolar.proofs.Rounds.{year_in_round}
 use Rattle.units.specs.Xinghe.{xinghe}
 use Rattle.units.proofs.Sound.{sound}
-use borrow.Author.Rules.{rules}
 use Rattle.calendar.proofs.rows.row_of.Goals as goal
 
 pub months_before-before-requires : goal.months_before-before-requires

@@ -4,7 +4,6 @@ use Rattle.lunisolar.proofs.Rounds.{in_round_lem}
 use Rattle.units.specs.Xinghe.{xinghe, round_months}
 use Rattle.units.proofs.Sound.{sound}
 use Rattle.calendar.proofs.Round.{head_stands}
-use borrow.Author.Rules.{rules}
 use Rattle.calendar.proofs.rows.row_under.Goals as goal
 
 below : (a : goal.After-struct_known-1) → a.args.head.before + a.args.place < round_months

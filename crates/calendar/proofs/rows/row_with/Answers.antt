@@ -8,7 +8,6 @@ use Rattle.units.specs.Xinghe.{xinghe, round_months}
 use Rattle.units.proofs.Sound.{sound}
 use Rattle.calendar.specs.declared.RowAnswer.{RowAnswer}
 use Rattle.calendar.proofs.Round.{head_found, head_leap, head_stands, head_row}
-use borrow.Author.Rules.{rules}
 use Rattle.calendar.proofs.rows.row_with.Goals as goal
 
 -- where the month stands

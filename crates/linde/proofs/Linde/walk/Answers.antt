@@ -4,7 +4,6 @@ use Prim.Native.Nat.{ℕ}
 use Rattle.mean_walk.specs.Walked.{walk_answer_fields}
 use Rattle.mean_walk.proofs.HandedIn.{walk_handed_in}
 use Rattle.linde.specs.Linde.{linde}
-use borrow.Author.Rules.{rules}
 use Rattle.linde.proofs.Linde.walk.Goals as goal
 
 pub returns : goal.returns

@@ -1,12 +1,9 @@
 use native.Mathlib.Omega.{arith}
 use native.Mathlib.Numerals.{add-one}
-use mathlib.Core.Path.{◌≡◌, ◌∙◌, refl}
-use mathlib.Core.List.{[], map}
-use Prim.Native.Nat.{◌-◌, ◌≤◌}
-use lib.Seq.{paste}
+use mathlib.Core.List.{[]}
 use Rattle.planets.specs.Stages.{no_stages}
 use Rattle.planets.specs.Rows.{stage_of}
-use Rattle.planets.proofs.Mapped.{one_more, all_made}
+use Rattle.planets.proofs.Mapped.{one_more}
 use Rattle.planets.proofs.decode.stages_of.Goals as goal
 
 pub loop-i-preserved : goal.loop-i-preserved

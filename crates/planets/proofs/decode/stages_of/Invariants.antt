@@ -1,12 +1,9 @@
-use native.Mathlib.Omega.{arith}
-use native.Mathlib.Numerals.{add-one}
-use mathlib.Core.Path.{◌≡◌, ◌∙◌, refl}
-use mathlib.Core.List.{[], map}
+use mathlib.Core.Path.{◌≡◌}
+use mathlib.Core.List.{map}
 use Prim.Native.Nat.{◌-◌, ◌≤◌}
 use lib.Seq.{paste}
 use Rattle.planets.specs.Stages.{no_stages}
 use Rattle.planets.specs.Rows.{stage_of}
-use Rattle.planets.proofs.Mapped.{one_more, all_made}
 use Rattle.planets.proofs.decode.stages_of.Given as goal
 
 abbrev pub invariant-loop-i : goal.invariant-loop-i

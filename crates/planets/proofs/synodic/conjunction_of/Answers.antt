@@ -1,10 +1,8 @@
 use native.Mathlib.Omega.{arith}
 use Prim.Native.Nat.{◌-◌, ◌*◌, ◌%◌}
-use native.Mathlib.Nat.{mod-lt}
 use Rattle.units.specs.Xinghe.{P}
 use Rattle.planets.specs.Conjunctions.{rest, remaining, time, kind, conjunction_of}
 use Rattle.planets.proofs.Room.{less_most}
-use borrow.Author.Rules.{rules}
 use Rattle.planets.proofs.synodic.conjunction_of.Goals as goal
 
 pub overflow_add-result : goal.overflow_add-result

@@ -4,7 +4,6 @@ use Rattle.planets.specs.declared.synodic.ConjunctionParts.{ConjunctionParts}
 use Rattle.units.specs.Xinghe.{P}
 use Rattle.planets.proofs.Room.{instant_most, kept_time}
 use Rattle.planets.specs.Answers.{conjunctions_of}
-use borrow.Author.Rules.{rules}
 use Rattle.planets.proofs.synodic.conjunctions_of.Goals as goal
 
 pub following_of-requires : goal.following_of-requires

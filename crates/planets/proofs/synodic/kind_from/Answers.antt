@@ -1,6 +1,5 @@
 use mathlib.Core.Path.{◌∙◌, sym}
 use Rattle.planets.proofs.Cases.{is_morning, is_evening, is_neither}
-use borrow.Author.Rules.{rules}
 use Rattle.planets.proofs.synodic.kind_from.Goals as goal
 
 pub returns-then-takes_half : goal.returns-then-takes_half

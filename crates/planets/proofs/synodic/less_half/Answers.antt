@@ -3,7 +3,6 @@ use mathlib.Core.Path.{◌≡◌, ◌∙◌, sym}
 use mathlib.Core.Bool.{true}
 use Rattle.planets.specs.Conjunctions.{takes_half}
 use Rattle.planets.proofs.Cases.{time_less, time_whole, is_morning}
-use borrow.Author.Rules.{rules}
 use Rattle.planets.proofs.synodic.less_half.Goals as goal
 
 -- the half is taken off

@@ -1,5 +1,4 @@
 use Rattle.planets.proofs.Cases.{period_chosen}
-use borrow.Author.Rules.{rules}
 use Rattle.planets.proofs.synodic.period_of.Goals as goal
 
 pub returns : goal.returns

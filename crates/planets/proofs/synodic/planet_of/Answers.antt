@@ -1,5 +1,4 @@
 use Rattle.planets.proofs.Cases.{halved_from}
-use borrow.Author.Rules.{rules}
 use Rattle.planets.proofs.synodic.planet_of.Goals as goal
 
 pub returns : goal.returns

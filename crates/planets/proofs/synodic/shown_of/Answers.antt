@@ -1,5 +1,4 @@
 use Rattle.planets.specs.Answers.{shown}
-use borrow.Author.Rules.{rules}
 use Rattle.planets.proofs.synodic.shown_of.Goals as goal
 
 pub returns : goal.returns

@@ -1,7 +1,6 @@
 use Rattle.reckoning.specs.Search.{between}
 use Rattle.planets.specs.Jobs.{stages_at}
 use Rattle.planets.proofs.Cases.{outside}
-use borrow.Author.Rules.{rules}
 use Rattle.planets.proofs.table.rows_of.Goals as goal
 
 pub returns-in-1 : goal.returns-in-1

@@ -1,7 +1,6 @@
 use native.Mathlib.Omega.{arith}
 use Rattle.writing.proofs.Writings.{and_then, from_front}
 use Rattle.year_text.proofs.Lengths.{field_length}
-use borrow.Author.Rules.{rules}
 use Rattle.volume_text.proofs.writer.render.Goals as goal
 
 pub put_field-requires : goal.put_field-requires

@@ -2,7 +2,6 @@ use mathlib.Core.Path.{◌≡◌, sym, ◌∙◌}
 use mathlib.Core.Bool.{true}
 use Rattle.volumes.specs.Volume.{is_run}
 use Rattle.volumes.specs.Stream.{held}
-use borrow.Author.Rules.{rules}
 use Rattle.volumes.proofs.reader.held.Goals as goal
 
 pub returns-then-same_bytes : goal.returns-then-same_bytes

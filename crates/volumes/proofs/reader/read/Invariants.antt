@@ -1,12 +1,6 @@
-use native.Mathlib.Omega.{arith}
-use mathlib.Core.Path.{◌≡◌, sym, ◌∙◌}
-use Prim.Native.Nat.{◌+◌, ◌-◌, ◌*◌, ◌/◌, ◌≤◌}
-use native.Mathlib.Numerals.{add-one}
-use lib.ListN.{length}
-use borrow.Author.Rules.{rules}
+use mathlib.Core.Path.{◌≡◌}
+use Prim.Native.Nat.{◌-◌, ◌≤◌}
 use Rattle.volumes.specs.Stream.{reader_after}
-use Rattle.volumes.proofs.Runs.{part_length}
-use Rattle.volumes.proofs.Genuine.{reads_on, reads_all}
 use Rattle.volumes.proofs.reader.read.Given as goal
 
 abbrev pub invariant-loop-i : goal.invariant-loop-i

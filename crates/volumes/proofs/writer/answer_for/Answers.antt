@@ -2,7 +2,6 @@ use native.Mathlib.Omega.{arith}
 use Prim.Native.Nat.{◌*◌}
 use borrow.Author.Tests.{le-leb, lt-leb}
 use Rattle.volumes.specs.Writer.{write_for}
-use borrow.Author.Rules.{rules}
 use Rattle.volumes.proofs.writer.answer_for.Goals as goal
 
 pub returns-then-n-room : goal.returns-then-n-room

@@ -1,8 +1,7 @@
 use native.Mathlib.Omega.{arith}
 use mathlib.Core.Path.{◌≡◌, refl, ap, ◌∙◌}
-use mathlib.Core.List.{◌++◌}
-use Prim.Native.Nat.{◌+◌, ◌-◌, ◌*◌, ◌≤◌}
-use lib.ListN.{length, drop}
+use Prim.Native.Nat.{◌+◌, ◌-◌, ◌*◌}
+use lib.ListN.{length}
 use Rattle.volumes.specs.Volume as volume
 use Rattle.volumes.proofs.Runs.{is_run_lem, part_length, as_long, one_more}
 use Rattle.volumes.proofs.writer.put_blocks.Goals as goal
@@ -14,7 +13,7 @@ loop-i-init c = (omega arith, refl)
 pub put_block-requires : goal.put_block-requires
 put_block-requires c =
     let long : length c.loop-i.out ≡ length c.args.out.now = let x = c.args in
-        rw c.loop-i.invariant.1 (as_long x.first c.loop-i.i x.out.now (omega (arith, c.requires.3, c.loop-i.invariant.0))) in
+    rw c.loop-i.invariant.1 (as_long x.first c.loop-i.i x.out.now (omega (arith, c.requires.3, c.loop-i.invariant.0))) in
     let i = c.loop-i.i in (
       part_length c.loop-i.out (512 * i) (512 * i + 512 - 512 * i) (omega arith) (omega (arith, long, c.requires.3, c.loop-i-test.true)),
       is_run_lem c.args.first (c.args.first + i) (record { least = c.requires.0; order = omega arith; most = omega (arith, c.requires.2, c.loop-i-test.true) }),

@@ -1,10 +1,8 @@
-use native.Mathlib.Omega.{arith}
-use mathlib.Core.Path.{◌≡◌, refl, ap, ◌∙◌}
+use mathlib.Core.Path.{◌≡◌}
 use mathlib.Core.List.{◌++◌}
-use Prim.Native.Nat.{◌+◌, ◌-◌, ◌*◌, ◌≤◌}
-use lib.ListN.{length, drop}
+use Prim.Native.Nat.{◌-◌, ◌*◌, ◌≤◌}
+use lib.ListN.{drop}
 use Rattle.volumes.specs.Volume as volume
-use Rattle.volumes.proofs.Runs.{is_run_lem, part_length, as_long, one_more}
 use Rattle.volumes.proofs.writer.put_blocks.Given as goal
 
 abbrev pub invariant-loop-i : goal.invariant-loop-i

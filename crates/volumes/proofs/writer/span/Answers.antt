@@ -7,14 +7,13 @@ use Rattle.reckoning.proofs.Searches.{both_right}
 use Rattle.units.specs.Xinghe.{round_years, is_year}
 use Rattle.volumes.specs.Writer.{span_answer}
 use Rattle.volumes.proofs.Runs.{year_high}
-use borrow.Author.Rules.{rules}
 use Rattle.volumes.proofs.writer.span.Goals as goal
 
 pub overflow_add-result : goal.overflow_add-result
 overflow_add-result c =
     let years : (let x = c.args in is_year x.first && is_year x.last ≡ true) = rw (← c.is_year.ensures, ← c.is_year-2.ensures) c.if-is_year.true in
     let last_year : c.args.last ≤ round_years = let x = c.args in
-        year_high x.last (both_right (is_year x.first) (is_year x.last) (rw years tt)) in
+    year_high x.last (both_right (is_year x.first) (is_year x.last) (rw years tt)) in
     omega (arith, last_year)
 
 pub returns-then-first-last : goal.returns-then-first-last

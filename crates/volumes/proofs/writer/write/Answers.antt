@@ -6,7 +6,6 @@ use Rattle.volumes.specs.Writer.{write_for, write_answer, buffer_after}
 use Rattle.volumes.specs.declared.writer.SpanAnswer.{SpanAnswer}
 use Rattle.volumes.specs.declared.writer.WriteAnswer.{WriteAnswer}
 use Rattle.volumes.proofs.Answered.{written_of}
-use borrow.Author.Rules.{rules}
 use Rattle.volumes.proofs.writer.write.Goals as goal
 
 pub put_blocks-requires : goal.put_blocks-requires

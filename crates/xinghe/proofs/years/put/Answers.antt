@@ -1,10 +1,6 @@
 use native.Mathlib.Numerals.{add-one}
-use lib.ListN.{length}
-use mathlib.Core.Path.{◌≡◌}
-use Prim.Native.Nat.{◌-◌, ◌≤◌}
 use native.Mathlib.Omega.{arith}
-use lib.Seq.{paste, paste-zero, paste-suc, length-paste}
-use Rattle.calendar.specs.Rows.{field_count}
+use lib.Seq.{paste-suc}
 use Rattle.xinghe.proofs.years.put.Goals as goal
 
 pub loop-j-preserved : goal.loop-j-preserved

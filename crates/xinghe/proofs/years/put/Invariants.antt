@@ -1,9 +1,6 @@
-use native.Mathlib.Numerals.{add-one}
-use lib.ListN.{length}
 use mathlib.Core.Path.{◌≡◌}
 use Prim.Native.Nat.{◌-◌, ◌≤◌}
-use native.Mathlib.Omega.{arith}
-use lib.Seq.{paste, paste-zero, paste-suc, length-paste}
+use lib.Seq.{paste}
 use Rattle.calendar.specs.Rows.{field_count}
 use Rattle.xinghe.proofs.years.put.Given as goal
 

@@ -1,8 +1,5 @@
-use Prim.Native.Nat.{◌-◌}
-use mathlib.Core.Path.{◌≡◌, sym, ◌∙◌}
-use borrow.Author.Rules.{rules}
-use lib.ListN.{length}
-use Rattle.year_text.proofs.Readings.{Sofar, sofar_start, sofar_year, sofar_more, sofar_end}
+use mathlib.Core.Path.{sym, ◌∙◌}
+use Rattle.year_text.proofs.Readings.{sofar_year, sofar_more, sofar_end}
 use Rattle.year_text.proofs.reader.year_asked.Goals as goal
 
 pub returns-in-Year : goal.returns-in-Year

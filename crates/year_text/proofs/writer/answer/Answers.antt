@@ -1,5 +1,4 @@
 use Rattle.year_text.proofs.Fits.{asked_text}
-use borrow.Author.Rules.{rules}
 use Rattle.year_text.proofs.writer.answer.Goals as goal
 
 pub returns : goal.returns

@@ -1,7 +1,5 @@
 use native.Mathlib.Omega.{arith}
 use Rattle.year_text.proofs.Decimals.{at_most_20}
-use Rattle.writing.proofs.Writings.{and_then}
-use borrow.Author.Rules.{rules}
 use Rattle.year_text.proofs.writer.put_field.Goals as goal
 
 pub put_decimal-after-requires : goal.put_decimal-after-requires

@@ -2,7 +2,6 @@ use native.Mathlib.Omega.{arith}
 use Rattle.year_text.specs.Text.{head_line, year_word, months_word, leap_word}
 use Rattle.year_text.proofs.Lengths.{named_length}
 use Rattle.writing.proofs.Writings.{and_then}
-use borrow.Author.Rules.{rules}
 use Rattle.year_text.proofs.writer.put_head.Goals as goal
 
 pub put_named-b-requires : goal.put_named-b-requires

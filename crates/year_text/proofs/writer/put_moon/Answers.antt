@@ -2,7 +2,6 @@ use native.Mathlib.Omega.{arith}
 use Rattle.year_text.specs.Text.{moon_text}
 use Rattle.year_text.proofs.Lengths.{field_length}
 use Rattle.writing.proofs.Writings.{and_then}
-use borrow.Author.Rules.{rules}
 use Rattle.year_text.proofs.writer.put_moon.Goals as goal
 
 pub put_field-b-requires : goal.put_field-b-requires

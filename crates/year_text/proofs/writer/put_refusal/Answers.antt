@@ -1,5 +1,4 @@
 use Rattle.writing.proofs.Writings.{and_then}
-use borrow.Author.Rules.{rules}
 use Rattle.year_text.proofs.writer.put_refusal.Goals as goal
 
 pub returns : goal.returns

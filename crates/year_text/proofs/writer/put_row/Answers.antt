@@ -2,7 +2,6 @@ use native.Mathlib.Omega.{arith}
 use Rattle.year_text.specs.Text.{month_line}
 use Rattle.year_text.proofs.Lengths.{place_length}
 use Rattle.writing.proofs.Writings.{and_then}
-use borrow.Author.Rules.{rules}
 use Rattle.year_text.proofs.writer.put_row.Goals as goal
 
 pub put_moon-requires : goal.put_moon-requires

@@ -1,13 +1,7 @@
 use Prim.Native.Nat.{◌-◌, ◌≤◌}
-use mathlib.Core.Path.{◌≡◌}
-use native.Mathlib.Omega.{arith}
-use borrow.Author.Rules.{rules}
-use lib.ListN.{take, length-take}
-use Rattle.calendar.specs.Answers.{zero_row}
-use Rattle.year_text.specs.Text.{month_line, row_lines}
-use Rattle.writing.specs.Written.{Wrote, texts}
-use Rattle.writing.proofs.Writings.{wrote_none, and_then, texts_more}
-use Rattle.year_text.proofs.Lengths.{lines_length}
+use lib.ListN.{take}
+use Rattle.year_text.specs.Text.{row_lines}
+use Rattle.writing.specs.Written.{Wrote}
 use Rattle.year_text.proofs.writer.put_rows.Given as goal
 
 abbrev pub invariant-loop-i : goal.invariant-loop-i

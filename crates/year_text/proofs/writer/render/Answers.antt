@@ -10,7 +10,6 @@ use Rattle.year_list.proofs.Years.{front_rows}
 use Rattle.year_text.specs.Text.{text_for}
 use Rattle.writing.proofs.Writings.{and_then, from_front}
 use Rattle.year_text.proofs.Lengths.{head_length}
-use borrow.Author.Rules.{rules}
 use Rattle.year_text.proofs.writer.render.Goals as goal
 
 -- the head that the match binds is the year's, and so are the rows

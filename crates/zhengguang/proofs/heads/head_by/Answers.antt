@@ -5,7 +5,6 @@ use Rattle.mean_calendar.specs.declared.MeanHeadAnswer.{MeanHeadAnswer}
 use Rattle.mean_calendar.proofs.Found.{HeadFound, head_found}
 use Rattle.zhengguang.specs.Zhengguang.{zhengguang}
 use Rattle.zhengguang.specs.Rows.{head_by}
-use borrow.Author.Rules.{rules}
 use Rattle.zhengguang.proofs.heads.head_by.Goals as goal
 
 -- the head that the match binds, and whose it is

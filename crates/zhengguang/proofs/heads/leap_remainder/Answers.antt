@@ -1,6 +1,5 @@
 use mathlib.Core.Path.{refl}
 use Rattle.reckoning.specs.Chapters.{chapter_rest}
-use borrow.Author.Rules.{rules}
 use Rattle.zhengguang.proofs.heads.leap_remainder.Goals as goal
 
 pub returns : goal.returns

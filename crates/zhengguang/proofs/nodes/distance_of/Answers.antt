@@ -1,6 +1,5 @@
 use mathlib.Core.Path.{refl}
 use Rattle.zhengguang.specs.Nodes.{distance_of}
-use borrow.Author.Rules.{rules}
 use Rattle.zhengguang.proofs.nodes.distance_of.Goals as goal
 
 pub returns : goal.returns

@@ -6,7 +6,6 @@ use Rattle.lunisolar.proofs.Rounds.{lunation_in_round}
 use Rattle.zhengguang.specs.Zhengguang.{zhengguang}
 use Rattle.zhengguang.specs.Nodes.{nodes_for}
 use Rattle.zhengguang.proofs.Sound.{sound}
-use borrow.Author.Rules.{rules}
 use Rattle.zhengguang.proofs.nodes.nodes.Goals as goal
 
 pub nodes_of-requires : goal.nodes_of-requires

@@ -1,6 +1,5 @@
 use mathlib.Core.Path.{refl}
 use Rattle.zhengguang.specs.Nodes.{nodes_of}
-use borrow.Author.Rules.{rules}
 use Rattle.zhengguang.proofs.nodes.nodes_of.Goals as goal
 
 pub returns : goal.returns

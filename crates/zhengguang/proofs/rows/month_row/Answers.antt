@@ -5,7 +5,6 @@ use Rattle.mean_calendar.specs.declared.MeanMonthAnswer.{MeanMonthAnswer}
 use Rattle.zhengguang.specs.Zhengguang.{zhengguang}
 use Rattle.zhengguang.specs.Rows.{row_for}
 use Rattle.zhengguang.proofs.Whose.{month_in_round}
-use borrow.Author.Rules.{rules}
 use Rattle.zhengguang.proofs.rows.month_row.Goals as goal
 
 pub with_node-requires : goal.with_node-requires

@@ -4,8 +4,6 @@ use Rattle.mean_calendar.specs.Months.{month_of}
 use Rattle.mean_calendar.specs.declared.MeanMonth.{MeanMonth}
 use Rattle.zhengguang.specs.Zhengguang.{zhengguang}
 use Rattle.zhengguang.specs.Rows.{row_by, row_of}
-use Rattle.zhengguang.proofs.Sound.{sound}
-use borrow.Author.Rules.{rules}
 use Rattle.zhengguang.proofs.rows.row_of.Goals as goal
 
 is_month : (a : goal.After-month_of) → a.month_of.result ≡ month_of zhengguang a.args.lunation

@@ -3,7 +3,6 @@ use mathlib.Core.List.{List}
 use Prim.Native.Nat.{ℕ}
 use Rattle.zhengguang.specs.Carries.{walk_answer_fields}
 use Rattle.zhengguang.proofs.HandedIn.{walk_handed_in}
-use borrow.Author.Rules.{rules}
 use Rattle.zhengguang.proofs.walks.walk.Goals as goal
 
 pub returns : goal.returns

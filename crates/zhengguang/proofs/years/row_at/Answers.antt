@@ -4,7 +4,6 @@ use Rattle.mean_year.specs.Years.{month_at}
 use Rattle.zhengguang.specs.Zhengguang.{zhengguang}
 use Rattle.zhengguang.specs.Rows.{row_by}
 use Rattle.zhengguang.proofs.Whose.{place_low, row_of_values}
-use borrow.Author.Rules.{rules}
 use Rattle.zhengguang.proofs.years.row_at.Goals as goal
 
 -- any calendar's month at the place

@@ -1,9 +1,7 @@
 use native.Mathlib.Omega.{arith}
 use mathlib.Core.Path.{◌≡◌, refl, sym, ap, ◌∙◌}
-use mathlib.Core.List.{List}
-use Prim.Native.Nat.{ℕ, ◌-◌, ◌≤◌}
-use lib.ListN.{length, set}
-use Rattle.reckoning.proofs.Lists.{filled_to, none_filled, filled_length, all_filled, one_more, map_from}
+use lib.ListN.{set}
+use Rattle.reckoning.proofs.Lists.{filled_to, none_filled, all_filled, one_more, map_from}
 use Rattle.mean_year.specs.Years.{places}
 use Rattle.zhengguang.specs.Rows.{row_fields}
 use Rattle.zhengguang.specs.Years.{row_at}

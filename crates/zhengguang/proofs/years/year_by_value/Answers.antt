@@ -1,6 +1,5 @@
 use native.Mathlib.Omega.{arith}
 use mathlib.Core.Path.{◌≡◌, refl, sym, ap, ◌∙◌}
-use Prim.Native.Nat.{◌-◌, ◌≤◌}
 use lib.ListN.{set, replicate}
 use Rattle.reckoning.specs.Search.{list_from}
 use Rattle.reckoning.proofs.Lists.{filled_to, none_filled, all_filled, one_more}

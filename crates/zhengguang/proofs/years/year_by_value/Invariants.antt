@@ -1,9 +1,7 @@
-use native.Mathlib.Omega.{arith}
-use mathlib.Core.Path.{◌≡◌, refl, sym, ap, ◌∙◌}
+use mathlib.Core.Path.{◌≡◌}
 use Prim.Native.Nat.{◌-◌, ◌≤◌}
-use lib.ListN.{set, replicate}
-use Rattle.reckoning.specs.Search.{list_from}
-use Rattle.reckoning.proofs.Lists.{filled_to, none_filled, all_filled, one_more}
+use lib.ListN.{replicate}
+use Rattle.reckoning.proofs.Lists.{filled_to}
 use Rattle.mean_year.specs.Years.{places}
 use Rattle.zhengguang.specs.Answers.{zero_row}
 use Rattle.zhengguang.specs.Years.{row_at}

@@ -1,6 +1,5 @@
 use borrow.Author.Tests.{eq-eqb, ne_eqb}
 use Rattle.volume_text.specs.Lines.{span_fed}
-use borrow.Author.Rules.{rules}
 use Rattle.volume_text.proofs.reader.SpanReader.feed.Goals as goal
 
 pub returns-then-self : goal.returns-then-self

@@ -1,5 +1,4 @@
 use Rattle.volume_text.specs.Lines.{before_blank, after_blank, has_blank, span_read}
-use borrow.Author.Rules.{rules}
 use Rattle.volume_text.proofs.reader.SpanReader.new.Goals as goal
 
 pub returns : goal.returns

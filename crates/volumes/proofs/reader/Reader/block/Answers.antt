@@ -7,7 +7,6 @@ use Rattle.volumes.specs.Volume.{block_at}
 use Rattle.volumes.specs.Volume.{is_run}
 use Rattle.volumes.specs.Stream.{held, read_on}
 use Rattle.volumes.proofs.Runs.{run_of}
-use borrow.Author.Rules.{rules}
 use Rattle.volumes.proofs.reader.Reader.block.Goals as goal
 
 pub returns-then-last-ge-YEARS : goal.returns-then-last-ge-YEARS

@@ -1,6 +1,5 @@
 use borrow.Author.Tests.{eq-eqb, ne_eqb}
 use Rattle.volumes.specs.Stream.{finished}
-use borrow.Author.Rules.{rules}
 use Rattle.volumes.proofs.reader.Reader.finish.Goals as goal
 
 pub returns-then-rest-ne0 : goal.returns-then-rest-ne0

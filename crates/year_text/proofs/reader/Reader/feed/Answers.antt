@@ -1,8 +1,6 @@
 use native.Mathlib.Omega.{arith}
-use borrow.Author.Tests.{not-true, not-false}
 use Rattle.year_text.specs.Lines.{fed}
 use Rattle.year_text.proofs.Readings.{digit, too_low, too_high}
-use borrow.Author.Rules.{rules}
 use Rattle.year_text.proofs.reader.Reader.feed.Goals as goal
 
 pub returns-then-not-valid : goal.returns-then-not-valid

@@ -1,9 +1,6 @@
 use mathlib.Core.Path.{◌≡◌, sym, ap, ◌∙◌}
-use mathlib.Core.Bool.{Bool}
 use borrow.Author.Tests.{eq-eqb, ne_eqb}
 use Rattle.year_text.specs.Lines.{fed, is_settled, stepped}
-use Rattle.year_text.specs.declared.reader.Reader.{Reader}
-use borrow.Author.Rules.{rules}
 use Rattle.year_text.proofs.reader.Reader.step.Goals as goal
 
 pub returns-then-byte-eq10 : goal.returns-then-byte-eq10
