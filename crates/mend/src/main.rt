@@ -1,7 +1,7 @@
 // Reads a scratched volume from standard input, mends it, and prints the indices of the damaged blocks, their number and the mended volume.
 #![tactic(auto)]
 
-ghost use Rattle.std.specs.Prelude.{◌≤◌, length};
+ghost use Rattle.std.specs.Prelude.{◌≡◌, ◌≤◌, length};
 
 use blocks::BLOCK;
 use mending::MOST_BLOCKS;
@@ -14,6 +14,13 @@ const ROOM: usize = BLOCK * MOST_BLOCKS + 1;
 
 // Nothing: no volume.
 const NONE: usize = 0;
+
+// So many zeros. Their number is a parameter, since a proof at the number itself would count them out one by one.
+fn zeros<const N: usize>() -> [u8; N]
+    ensures { N ≡ length result }
+{
+    [0; N]
+}
 
 // How many bytes of the input are at the front of the buffer. An input that has not ended there, since a read failed, is no volume.
 fn read_volume<R: Read>(input: &mut R, buffer: &mut [u8]) -> usize
@@ -37,7 +44,7 @@ fn mend_and_print(rt: &impl Print, volume: &mut [u8]) -> io::Result<()> {
 }
 
 fn main(rt: HostRuntime) -> io::Result<()> {
-    let mut buffer = [0u8; ROOM];
+    let mut buffer: [u8; ROOM] = zeros();
     let got = read_volume(&mut rt.stdin(), &mut buffer);
     mend_and_print(&rt, &mut buffer[..got])
 }
