@@ -11,6 +11,7 @@ use mean_calendar::carries::{FIELDS, MonthFields};
 use mean_calendar::{MeanHead, MeanHeadAnswer, MeanMonth, MeanMonthAnswer};
 use mean_walk::MeanWalkAnswer;
 use mean_year::PLACES;
+use std::io;
 
 fn asked(question: &[u8]) -> Line {
     mean_questions::asked(b"linde", question)
@@ -31,41 +32,41 @@ fn head_numbers(head: MeanHead) -> [u64; 5] {
     ]
 }
 
-pub fn ask_head(year: u64) {
+pub fn ask_head(rt: &impl Print, year: u64) -> io::Result<()> {
     let line = asked(b"head").number(year);
     match Linde::year_head(year) {
         MeanHeadAnswer::Answered(head) => {
             let numbers = head_numbers(head);
-            fields::with_numbers(line, &numbers).write()
+            fields::with_numbers(line, &numbers).write(rt)
         }
-        MeanHeadAnswer::Refused(refusal) => line.refuse(refusal),
+        MeanHeadAnswer::Refused(refusal) => line.refuse(rt, refusal),
     }
 }
 
-pub fn ask_row(year: u64, place: u64) {
+pub fn ask_row(rt: &impl Print, year: u64, place: u64) -> io::Result<()> {
     let line = asked_of_month(b"row", year, place);
     match Linde::month_row(year, place) {
         MeanMonthAnswer::Answered(month) => {
             let numbers = month.fields();
-            mean_questions::write_row(line, &numbers, month.day)
+            mean_questions::write_row(rt, line, &numbers, month.day)
         }
-        MeanMonthAnswer::Refused(refusal) => line.refuse(refusal),
+        MeanMonthAnswer::Refused(refusal) => line.refuse(rt, refusal),
     }
 }
 
-pub fn ask_cut(year: u64, cut: u64, index: u64) {
+pub fn ask_cut(rt: &impl Print, year: u64, cut: u64, index: u64) -> io::Result<()> {
     let line = asked(b"cut").number(year).number(cut).number(index);
-    mean_questions::write_point(line, Linde::cut_point(year, cut, index));
+    mean_questions::write_point(rt, line, Linde::cut_point(year, cut, index))
 }
 
-pub fn ask_day(year: u64, place: u64, day: u64) {
+pub fn ask_day(rt: &impl Print, year: u64, place: u64, day: u64) -> io::Result<()> {
     let line = asked_of_month(b"day", year, place).number(day);
-    mean_questions::write_day(line, Linde::day_of_date(year, place, day));
+    mean_questions::write_day(rt, line, Linde::day_of_date(year, place, day))
 }
 
-pub fn ask_date(number: u64) {
+pub fn ask_date(rt: &impl Print, number: u64) -> io::Result<()> {
     let line = asked(b"date").number(number);
-    questions::write_date(line, Linde::date_of_day(number));
+    questions::write_date(rt, line, Linde::date_of_day(number))
 }
 
 // The month worked out from the origin.
@@ -75,36 +76,36 @@ fn month_of(lunation: u64) -> MeanMonth
     mean_calendar::months::month_of(Linde::constants(), lunation)
 }
 
-fn write_carried(line: Line, answer: MeanMonthAnswer) {
+fn write_carried(rt: &impl Print, line: Line, answer: MeanMonthAnswer) -> io::Result<()> {
     match answer {
         MeanMonthAnswer::Answered(month) => {
             let numbers = month.fields();
-            mean_questions::write_carried(line, &numbers)
+            mean_questions::write_carried(rt, line, &numbers)
         }
-        MeanMonthAnswer::Refused(refusal) => line.refuse(refusal),
+        MeanMonthAnswer::Refused(refusal) => line.refuse(rt, refusal),
     }
 }
 
-pub fn ask_carry(lunation: u64, count: i64)
+pub fn ask_carry(rt: &impl Print, lunation: u64, count: i64) -> io::Result<()>
     requires { lunation < lunations }
 {
     let line = asked(b"carry").number(lunation).signed(count);
-    write_carried(line, Linde::carry(month_of(lunation), count));
+    write_carried(rt, line, Linde::carry(month_of(lunation), count))
 }
 
 // The month after, and the month before.
-pub fn ask_next(lunation: u64)
+pub fn ask_next(rt: &impl Print, lunation: u64) -> io::Result<()>
     requires { lunation < lunations }
 {
     let line = asked(b"next").number(lunation);
-    write_carried(line, Linde::next(month_of(lunation)));
+    write_carried(rt, line, Linde::next(month_of(lunation)))
 }
 
-pub fn ask_back(lunation: u64)
+pub fn ask_back(rt: &impl Print, lunation: u64) -> io::Result<()>
     requires { lunation < lunations }
 {
     let line = asked(b"back").number(lunation);
-    write_carried(line, Linde::back(month_of(lunation)));
+    write_carried(rt, line, Linde::back(month_of(lunation)))
 }
 
 // A month with one number changed, which neither a carry nor a walk may take.
@@ -116,48 +117,53 @@ fn forged(lunation: u64, field: usize) -> MonthFields
     numbers
 }
 
-fn ask_forged(lunation: u64, field: usize)
+fn ask_forged(rt: &impl Print, lunation: u64, field: usize) -> io::Result<()>
     requires { (lunation < lunations) × (field < field_count) }
 {
     let line = asked(b"forged").number(lunation).number(field as u64);
     let numbers = forged(lunation, field);
-    write_carried(line, Linde::carry_fields(&numbers, 0));
+    write_carried(rt, line, Linde::carry_fields(&numbers, 0))
 }
 
-pub fn ask_forged_fields(lunation: u64)
+pub fn ask_forged_fields(rt: &impl Print, lunation: u64) -> io::Result<()>
     requires { lunation < lunations }
 {
     let mut field = 0;
     while field < FIELDS {
-        ask_forged(lunation, field);
+        ask_forged(rt, lunation, field)?;
         field += 1;
     }
+    Ok(())
 }
 
-fn write_walk(line: Line, answer: MeanWalkAnswer) {
+fn write_walk(rt: &impl Print, line: Line, answer: MeanWalkAnswer) -> io::Result<()> {
     match answer {
         MeanWalkAnswer::Answered(end) => {
             let month = end.month;
             let numbers = month.fields();
-            mean_questions::write_walk(line, &numbers, end.sum, end.answered)
+            mean_questions::write_walk(rt, line, &numbers, end.sum, end.answered)
         }
-        MeanWalkAnswer::Refused(refusal) => line.refuse(refusal),
+        MeanWalkAnswer::Refused(refusal) => line.refuse(rt, refusal),
     }
 }
 
-pub fn ask_walk(lunation: u64, counts: &[i64])
+pub fn ask_walk(rt: &impl Print, lunation: u64, counts: &[i64]) -> io::Result<()>
     requires { lunation < lunations }
 {
     let line = asked(b"walk").number(lunation);
-    write_walk(line, Linde::walk(month_of(lunation), counts));
+    write_walk(rt, line, Linde::walk(month_of(lunation), counts))
 }
 
 // The small remainder is changed.
-pub fn ask_forged_walk(lunation: u64, counts: &[i64])
+pub fn ask_forged_walk(rt: &impl Print, lunation: u64, counts: &[i64]) -> io::Result<()>
     requires { lunation < lunations }
 {
     let numbers = forged(lunation, 6);
-    write_walk(asked(b"walk forged"), Linde::walk_fields(&numbers, counts));
+    write_walk(
+        rt,
+        asked(b"walk forged"),
+        Linde::walk_fields(&numbers, counts),
+    )
 }
 
 // Every place of the list: those past the year's months are zero.
@@ -172,7 +178,7 @@ fn fed_months(digest: Digest, months: [MeanMonth; PLACES]) -> Digest {
     fed
 }
 
-pub fn ask_list(year: u64) {
+pub fn ask_list(rt: &impl Print, year: u64) -> io::Result<()> {
     let line = asked(b"list").number(year);
     let list = Linde::year_by_value(year);
     let months = list.months;
@@ -181,8 +187,8 @@ pub fn ask_list(year: u64) {
         MeanHeadAnswer::Answered(head) => {
             let numbers = head_numbers(head);
             let digest = mean_questions::fed_numbers(Digest::new(), &numbers);
-            line.number(fed_months(digest, months).value()).write()
+            line.number(fed_months(digest, months).value()).write(rt)
         }
-        MeanHeadAnswer::Refused(refusal) => line.refuse(refusal),
+        MeanHeadAnswer::Refused(refusal) => line.refuse(rt, refusal),
     }
 }

@@ -4,6 +4,7 @@ ghost use Rattle.std.specs.Prelude.{◌≤◌};
 use crate::fields;
 use calendar::MonthRow;
 use lines::Line;
+use std::io;
 use year_list::FillAnswer;
 
 // A row that no year has, by which a row that was not written is known.
@@ -24,35 +25,36 @@ fn marked_rows() -> [MonthRow; 13] {
 }
 
 // The lent rows as they are afterwards.
-fn write_lent(rows: [MonthRow; 13], have: usize)
+fn write_lent(rt: &impl Print, rows: [MonthRow; 13], have: usize) -> io::Result<()>
     requires { have ≤ 13 }
 {
     let mut i = 0;
     while i < have {
         let row = rows[i];
-        fields::with_row(Line::new().text(b"lent").number(i as u64), row).write();
+        fields::with_row(Line::new().text(b"lent").number(i as u64), row).write(rt)?;
         i += 1;
     }
+    Ok(())
 }
 
-fn ask_fill(year: u64, have: usize)
+fn ask_fill(rt: &impl Print, year: u64, have: usize) -> io::Result<()>
     requires { have ≤ 13 }
 {
     let line = Line::new().text(b"fill").number(year).number(have as u64);
     match year_list::answer_for(calendar::heads::year_head(year), have) {
-        FillAnswer::Filled(count) => line.number(count).write(),
-        FillAnswer::Refused(refusal) => line.refuse(refusal),
+        FillAnswer::Filled(count) => line.number(count).write(rt)?,
+        FillAnswer::Refused(refusal) => line.refuse(rt, refusal)?,
     }
-    write_lent(year_list::fill_front(marked_rows(), have, year), have);
+    write_lent(rt, year_list::fill_front(marked_rows(), have, year), have)
 }
 
-pub fn ask_fills() {
-    ask_fill(1, 12);
-    ask_fill(1, 13);
-    ask_fill(3, 12);
-    ask_fill(3, 13);
-    ask_fill(0, 12);
-    ask_fill(1011601, 13);
-    ask_fill(1011600, 12);
-    ask_fill(1011600, 13);
+pub fn ask_fills(rt: &impl Print) -> io::Result<()> {
+    ask_fill(rt, 1, 12)?;
+    ask_fill(rt, 1, 13)?;
+    ask_fill(rt, 3, 12)?;
+    ask_fill(rt, 3, 13)?;
+    ask_fill(rt, 0, 12)?;
+    ask_fill(rt, 1011601, 13)?;
+    ask_fill(rt, 1011600, 12)?;
+    ask_fill(rt, 1011600, 13)
 }

@@ -1,5 +1,6 @@
 // The cases: full answers for chosen years, then refusals and edges, of the calendar and then of the Zhengguang and the Linde calendar, in the lines that the independent second program writes.
 #![tactic(auto)]
+
 mod edges;
 mod fields;
 mod linde_edges;
@@ -16,11 +17,13 @@ mod years;
 mod zhengguang_edges;
 mod zhengguang_questions;
 
-fn main() {
-    years::ask_spread();
-    years::ask_seams();
-    years::ask_chapter();
-    edges::ask_edges();
-    zhengguang_edges::ask_zhengguang();
-    linde_edges::ask_linde();
+use std::io;
+
+fn main(rt: HostRuntime) -> io::Result<()> {
+    years::ask_spread(&rt)?;
+    years::ask_seams(&rt)?;
+    years::ask_chapter(&rt)?;
+    edges::ask_edges(&rt)?;
+    zhengguang_edges::ask_zhengguang(&rt)?;
+    linde_edges::ask_linde(&rt)
 }

@@ -4,6 +4,7 @@ use lines::Line;
 use lines::digest::Digest;
 use lunisolar::dates::DayAnswer;
 use mean_calendar::MeanPointAnswer;
+use std::io;
 
 // A line begins with its calendar's name, since the questions have the same names in all calendars.
 pub fn asked(calendar: &[u8], question: &[u8]) -> Line {
@@ -15,41 +16,47 @@ pub fn asked_of_month(calendar: &[u8], question: &[u8], year: u64, place: u64) -
 }
 
 // A row with the day of the sixty on which its month begins.
-pub fn write_row(line: Line, numbers: &[u64], first: u64) {
+pub fn write_row(rt: &impl Print, line: Line, numbers: &[u64], first: u64) -> io::Result<()> {
     fields::with_numbers(line, numbers)
         .number(lunisolar::sixty::sexagenary(first))
-        .write();
+        .write(rt)
 }
 
-pub fn write_carried(line: Line, numbers: &[u64]) {
-    fields::with_numbers(line.text(b" ->"), numbers).write();
+pub fn write_carried(rt: &impl Print, line: Line, numbers: &[u64]) -> io::Result<()> {
+    fields::with_numbers(line.text(b" ->"), numbers).write(rt)
 }
 
 // Where a walk ended, the sum of the answered counts and how many they were.
-pub fn write_walk(line: Line, numbers: &[u64], sum: i64, answered: usize) {
+pub fn write_walk(
+    rt: &impl Print,
+    line: Line,
+    numbers: &[u64],
+    sum: i64,
+    answered: usize,
+) -> io::Result<()> {
     fields::with_numbers(line.text(b" ->"), numbers)
         .signed(sum)
         .number(answered as u64)
-        .write();
+        .write(rt)
 }
 
-pub fn write_point(line: Line, answer: MeanPointAnswer) {
+pub fn write_point(rt: &impl Print, line: Line, answer: MeanPointAnswer) -> io::Result<()> {
     match answer {
         MeanPointAnswer::Answered(point) => {
             let remainder = point.remainder;
             line.number(point.day)
                 .number(remainder.parts)
                 .number(point.rest)
-                .write()
+                .write(rt)
         }
-        MeanPointAnswer::Refused(refusal) => line.refuse(refusal),
+        MeanPointAnswer::Refused(refusal) => line.refuse(rt, refusal),
     }
 }
 
-pub fn write_day(line: Line, answer: DayAnswer) {
+pub fn write_day(rt: &impl Print, line: Line, answer: DayAnswer) -> io::Result<()> {
     match answer {
-        DayAnswer::Answered(day) => line.number(day.number).number(day.sexagenary).write(),
-        DayAnswer::Refused(refusal) => line.refuse(refusal),
+        DayAnswer::Answered(day) => line.number(day.number).number(day.sexagenary).write(rt),
+        DayAnswer::Refused(refusal) => line.refuse(rt, refusal),
     }
 }
 

@@ -7,6 +7,7 @@ use blocks::BLOCK;
 use lines::Line;
 use lines::digest::Digest;
 use mending::{MOST_BLOCKS, MendAnswer};
+use std::io;
 
 // Every number of the list before it is lent.
 const LENT: u64 = 9;
@@ -51,6 +52,7 @@ fn mend_part(
 
 // How many blocks were written afresh, the first four numbers of the list, and the digest of the whole buffer afterwards.
 fn ask_mend(
+    rt: &impl Print,
     first: u64,
     last: u64,
     from: usize,
@@ -59,7 +61,7 @@ fn ask_mend(
     byte: u8,
     start: usize,
     length: usize,
-)
+) -> io::Result<()>
     requires { (from < 4) × (to < 4) × (512 * start + length ≤ 2048) }
 {
     let line = Line::new()
@@ -84,83 +86,83 @@ fn ask_mend(
                 .number(list[2])
                 .number(list[3])
                 .number(Digest::new().feed_bytes(&buffer).value())
-                .write()
+                .write(rt)
         }
-        MendAnswer::Refused(e) => line.refuse(e),
+        MendAnswer::Refused(e) => line.refuse(rt, e),
     }
 }
 
-fn ask_whole() {
-    ask_mend(1, 1, 0, 0, WHOLE, 0, 0, 512);
-    ask_mend(1, 4, 0, 0, WHOLE, 0, 0, 2048);
-    ask_mend(293996, 293998, 0, 0, WHOLE, 0, 0, 1536);
-    ask_mend(1011597, 1011600, 0, 0, WHOLE, 0, 0, 2048);
+fn ask_whole(rt: &impl Print) -> io::Result<()> {
+    ask_mend(rt, 1, 1, 0, 0, WHOLE, 0, 0, 512)?;
+    ask_mend(rt, 1, 4, 0, 0, WHOLE, 0, 0, 2048)?;
+    ask_mend(rt, 293996, 293998, 0, 0, WHOLE, 0, 0, 1536)?;
+    ask_mend(rt, 1011597, 1011600, 0, 0, WHOLE, 0, 0, 2048)
 }
 
 // Lengths that are none, before what the blocks hold.
-fn ask_lengths() {
-    ask_mend(1, 4, 0, 0, WHOLE, 0, 0, 0);
-    ask_mend(1, 4, 0, 0, WHOLE, 0, 0, 511);
-    ask_mend(1, 4, 0, 0, WHOLE, 0, 0, 2047);
-    ask_mend(0, 0, 0, 0, WHOLE, 0, 0, 513);
+fn ask_lengths(rt: &impl Print) -> io::Result<()> {
+    ask_mend(rt, 1, 4, 0, 0, WHOLE, 0, 0, 0)?;
+    ask_mend(rt, 1, 4, 0, 0, WHOLE, 0, 0, 511)?;
+    ask_mend(rt, 1, 4, 0, 0, WHOLE, 0, 0, 2047)?;
+    ask_mend(rt, 0, 0, 0, 0, WHOLE, 0, 0, 513)
 }
 
 // One altered byte: in a middle block, in the first block's year, in the last block's check, beside an era's head, and once to the byte that stood there.
-fn ask_bytes() {
-    ask_mend(1, 4, 0, 0, 740, 1, 0, 2048);
-    ask_mend(1, 4, 0, 0, 0, 9, 0, 2048);
-    ask_mend(1, 4, 0, 0, 2047, 255, 0, 2048);
-    ask_mend(168600, 168602, 0, 0, 1030, 1, 0, 1536);
-    ask_mend(2, 3, 0, 0, 512, 3, 0, 1024);
+fn ask_bytes(rt: &impl Print) -> io::Result<()> {
+    ask_mend(rt, 1, 4, 0, 0, 740, 1, 0, 2048)?;
+    ask_mend(rt, 1, 4, 0, 0, 0, 9, 0, 2048)?;
+    ask_mend(rt, 1, 4, 0, 0, 2047, 255, 0, 2048)?;
+    ask_mend(rt, 168600, 168602, 0, 0, 1030, 1, 0, 1536)?;
+    ask_mend(rt, 2, 3, 0, 0, 512, 3, 0, 1024)
 }
 
 // Blocks of zeros: in place of the first year, of the last, and behind the volume.
-fn ask_zeros() {
-    ask_mend(293996, 293998, 3, 0, WHOLE, 0, 0, 1536);
-    ask_mend(293996, 293998, 3, 2, WHOLE, 0, 0, 1536);
-    ask_mend(293996, 293998, 0, 0, WHOLE, 0, 0, 2048);
-    ask_mend(1, 1, 0, 0, WHOLE, 0, 0, 2048);
+fn ask_zeros(rt: &impl Print) -> io::Result<()> {
+    ask_mend(rt, 293996, 293998, 3, 0, WHOLE, 0, 0, 1536)?;
+    ask_mend(rt, 293996, 293998, 3, 2, WHOLE, 0, 0, 1536)?;
+    ask_mend(rt, 293996, 293998, 0, 0, WHOLE, 0, 0, 2048)?;
+    ask_mend(rt, 1, 1, 0, 0, WHOLE, 0, 0, 2048)
 }
 
 // No block is sound.
-fn ask_unsound() {
-    ask_mend(0, 0, 0, 0, WHOLE, 0, 0, 512);
-    ask_mend(0, 0, 0, 0, WHOLE, 0, 0, 2048);
-    ask_mend(1, 1, 0, 0, 0, 9, 0, 512);
-    ask_mend(1, 1, 0, 0, WHOLE, 0, 1, 512);
+fn ask_unsound(rt: &impl Print) -> io::Result<()> {
+    ask_mend(rt, 0, 0, 0, 0, WHOLE, 0, 0, 512)?;
+    ask_mend(rt, 0, 0, 0, 0, WHOLE, 0, 0, 2048)?;
+    ask_mend(rt, 1, 1, 0, 0, 0, 9, 0, 512)?;
+    ask_mend(rt, 1, 1, 0, 0, WHOLE, 0, 1, 512)
 }
 
 // A year twice, so that sound blocks imply different first years, however many agree.
-fn ask_different() {
-    ask_mend(1, 4, 0, 1, WHOLE, 0, 0, 2048);
-    ask_mend(1, 4, 3, 0, WHOLE, 0, 0, 2048);
-    ask_mend(5, 8, 1, 2, WHOLE, 0, 0, 2048);
-    ask_mend(5, 8, 1, 2, 520, 1, 0, 2048);
+fn ask_different(rt: &impl Print) -> io::Result<()> {
+    ask_mend(rt, 1, 4, 0, 1, WHOLE, 0, 0, 2048)?;
+    ask_mend(rt, 1, 4, 3, 0, WHOLE, 0, 0, 2048)?;
+    ask_mend(rt, 5, 8, 1, 2, WHOLE, 0, 0, 2048)?;
+    ask_mend(rt, 5, 8, 1, 2, 520, 1, 0, 2048)
 }
 
 // One sound block behind a damaged one: the first year would be 0, then 1; then a run past the round, and one that just stays in it.
-fn ask_ends() {
-    ask_mend(1, 1, 0, 1, 0, 9, 0, 1024);
-    ask_mend(2, 2, 0, 1, 0, 9, 0, 1024);
-    ask_mend(1011600, 1011600, 0, 0, WHOLE, 0, 0, 1024);
-    ask_mend(1011598, 1011600, 0, 0, WHOLE, 0, 0, 2048);
-    ask_mend(1011600, 1011600, 0, 3, 0, 9, 0, 2048);
+fn ask_ends(rt: &impl Print) -> io::Result<()> {
+    ask_mend(rt, 1, 1, 0, 1, 0, 9, 0, 1024)?;
+    ask_mend(rt, 2, 2, 0, 1, 0, 9, 0, 1024)?;
+    ask_mend(rt, 1011600, 1011600, 0, 0, WHOLE, 0, 0, 1024)?;
+    ask_mend(rt, 1011598, 1011600, 0, 0, WHOLE, 0, 0, 2048)?;
+    ask_mend(rt, 1011600, 1011600, 0, 3, 0, 9, 0, 2048)
 }
 
 // Cut at the front, so that the totals are another volume's.
-fn ask_cut() {
-    ask_mend(1, 4, 0, 0, WHOLE, 0, 1, 1536);
-    ask_mend(293996, 293998, 0, 0, WHOLE, 0, 1, 1024);
-    ask_mend(1011597, 1011600, 0, 0, WHOLE, 0, 3, 512);
+fn ask_cut(rt: &impl Print) -> io::Result<()> {
+    ask_mend(rt, 1, 4, 0, 0, WHOLE, 0, 1, 1536)?;
+    ask_mend(rt, 293996, 293998, 0, 0, WHOLE, 0, 1, 1024)?;
+    ask_mend(rt, 1011597, 1011600, 0, 0, WHOLE, 0, 3, 512)
 }
 
-pub fn ask_mending() {
-    ask_whole();
-    ask_lengths();
-    ask_bytes();
-    ask_zeros();
-    ask_unsound();
-    ask_different();
-    ask_ends();
-    ask_cut();
+pub fn ask_mending(rt: &impl Print) -> io::Result<()> {
+    ask_whole(rt)?;
+    ask_lengths(rt)?;
+    ask_bytes(rt)?;
+    ask_zeros(rt)?;
+    ask_unsound(rt)?;
+    ask_different(rt)?;
+    ask_ends(rt)?;
+    ask_cut(rt)
 }

@@ -1,5 +1,6 @@
 // Day names: every day of the sixty from either list, then lists of lengths at the edge and what is refused.
 use lines::Line;
+use std::io;
 
 // One byte more than a list of sixty names has.
 const LENT: usize = 361;
@@ -29,7 +30,7 @@ fn house_names() -> Lent {
     lent
 }
 
-fn ask_label<'a>(day: u64, theirs: &'a [u8], house: &'a [u8]) {
+fn ask_label<'a>(rt: &impl Print, day: u64, theirs: &'a [u8], house: &'a [u8]) -> io::Result<()> {
     let line = Line::new()
         .text(b"label")
         .number(day)
@@ -38,47 +39,48 @@ fn ask_label<'a>(day: u64, theirs: &'a [u8], house: &'a [u8]) {
     let name = names::label(day, theirs, house);
     let number = names::label_number(day, theirs, house);
     if number == 0 {
-        line.byte(b' ').text(name).write();
+        line.byte(b' ').text(name).write(rt)
     } else {
         // the name is empty then
-        line.text(b" refused").number(number).text(name).write();
+        line.text(b" refused").number(number).text(name).write(rt)
     }
 }
 
 // The sixty days, the one before and the one after.
-fn ask_round<'a>(theirs: &'a [u8], house: &'a [u8]) {
+fn ask_round<'a>(rt: &impl Print, theirs: &'a [u8], house: &'a [u8]) -> io::Result<()> {
     let mut day = 0;
     while day <= 61 {
-        ask_label(day, theirs, house);
+        ask_label(rt, day, theirs, house)?;
         day += 1;
     }
+    Ok(())
 }
 
-fn ask_ends<'a>(theirs: &'a [u8], house: &'a [u8]) {
-    ask_label(1, theirs, house);
-    ask_label(60, theirs, house);
+fn ask_ends<'a>(rt: &impl Print, theirs: &'a [u8], house: &'a [u8]) -> io::Result<()> {
+    ask_label(rt, 1, theirs, house)?;
+    ask_label(rt, 60, theirs, house)
 }
 
-fn ask_refused<'a>(theirs: &'a [u8], house: &'a [u8]) {
-    ask_label(0, theirs, house);
-    ask_ends(theirs, house);
-    ask_label(61, theirs, house);
-    ask_label(u64::MAX, theirs, house);
+fn ask_refused<'a>(rt: &impl Print, theirs: &'a [u8], house: &'a [u8]) -> io::Result<()> {
+    ask_label(rt, 0, theirs, house)?;
+    ask_ends(rt, theirs, house)?;
+    ask_label(rt, 61, theirs, house)?;
+    ask_label(rt, u64::MAX, theirs, house)
 }
 
-pub fn ask_names() {
+pub fn ask_names(rt: &impl Print) -> io::Result<()> {
     let lent_theirs = their_names();
     let lent_house = house_names();
     let theirs = &lent_theirs[..];
     let house = &lent_house[..];
-    ask_round(&theirs[0..360], &house[0..360]);
-    ask_round(&theirs[0..0], &house[0..360]);
-    ask_ends(&theirs[0..360], &house[0..0]);
-    ask_ends(&theirs[0..360], house);
-    ask_ends(&theirs[0..359], &house[0..360]);
-    ask_ends(theirs, &house[0..360]);
-    ask_refused(&theirs[0..0], &house[0..0]);
-    ask_refused(&theirs[0..359], house);
-    ask_refused(theirs, &house[0..359]);
-    ask_label(u64::MAX, &theirs[0..360], &house[0..360]);
+    ask_round(rt, &theirs[0..360], &house[0..360])?;
+    ask_round(rt, &theirs[0..0], &house[0..360])?;
+    ask_ends(rt, &theirs[0..360], &house[0..0])?;
+    ask_ends(rt, &theirs[0..360], house)?;
+    ask_ends(rt, &theirs[0..359], &house[0..360])?;
+    ask_ends(rt, theirs, &house[0..360])?;
+    ask_refused(rt, &theirs[0..0], &house[0..0])?;
+    ask_refused(rt, &theirs[0..359], house)?;
+    ask_refused(rt, theirs, &house[0..359])?;
+    ask_label(rt, u64::MAX, &theirs[0..360], &house[0..360])
 }

@@ -1,6 +1,7 @@
 // The planets: conjunctions of the years at the edges, the stages, and what is refused.
 use lines::Line;
 use planets::{Conjunction, ConjunctionsAnswer, Stage, StageCount, TwoConjunctions};
+use std::io;
 
 fn with_conjunction(line: Line, conjunction: Conjunction) -> Line {
     let time = conjunction.time;
@@ -21,23 +22,23 @@ fn with_conjunctions(line: Line, conjunctions: TwoConjunctions) -> Line {
     with_conjunction(with_conjunction(line, first), second)
 }
 
-fn ask_conjunctions(year: u64, planet: u64) {
+fn ask_conjunctions(rt: &impl Print, year: u64, planet: u64) -> io::Result<()> {
     let line = Line::new()
         .text(b"conjunctions")
         .number(year)
         .number(planet);
     match planets::conjunctions(year, planet) {
-        ConjunctionsAnswer::Answered(conjunctions) => with_conjunctions(line, conjunctions).write(),
-        ConjunctionsAnswer::Refused(refusal) => line.refuse(refusal),
+        ConjunctionsAnswer::Answered(two) => with_conjunctions(line, two).write(rt),
+        ConjunctionsAnswer::Refused(refusal) => line.refuse(rt, refusal),
     }
 }
 
-fn ask_all(year: u64) {
-    ask_conjunctions(year, 1);
-    ask_conjunctions(year, 2);
-    ask_conjunctions(year, 3);
-    ask_conjunctions(year, 4);
-    ask_conjunctions(year, 5);
+fn ask_all(rt: &impl Print, year: u64) -> io::Result<()> {
+    ask_conjunctions(rt, year, 1)?;
+    ask_conjunctions(rt, year, 2)?;
+    ask_conjunctions(rt, year, 3)?;
+    ask_conjunctions(rt, year, 4)?;
+    ask_conjunctions(rt, year, 5)
 }
 
 fn with_stage(line: Line, stage: Stage) -> Line {
@@ -57,53 +58,54 @@ fn with_stage(line: Line, stage: Stage) -> Line {
 }
 
 // Every place of the answer: those that no stage takes are zero.
-fn write_stages(planet: u64, stages: [Stage; 14]) {
+fn write_stages(rt: &impl Print, planet: u64, stages: [Stage; 14]) -> io::Result<()> {
     let mut i = 0;
     while i < 14 {
         let line = Line::new().text(b"stage").number(planet).number(i as u64);
-        with_stage(line, stages[i]).write();
+        with_stage(line, stages[i]).write(rt)?;
         i += 1;
     }
+    Ok(())
 }
 
-fn ask_stages(planet: u64) {
+fn ask_stages(rt: &impl Print, planet: u64) -> io::Result<()> {
     let line = Line::new().text(b"stages").number(planet);
     let answer = planets::stages(planet);
     let stages = answer.stages;
     let counted = answer.count;
     match counted {
         StageCount::Answered(count) => {
-            line.number(count).write();
-            write_stages(planet, stages);
+            line.number(count).write(rt)?;
+            write_stages(rt, planet, stages)
         }
-        StageCount::Refused(refusal) => line.refuse(refusal),
+        StageCount::Refused(refusal) => line.refuse(rt, refusal),
     }
 }
 
-fn ask_refused() {
-    ask_conjunctions(0, 0);
-    ask_conjunctions(0, 1);
-    ask_conjunctions(1, 0);
-    ask_conjunctions(1, 6);
-    ask_conjunctions(1011600, u64::MAX);
-    ask_conjunctions(1011601, 1);
-    ask_conjunctions(1011601, 6);
-    ask_conjunctions(u64::MAX, 3);
+fn ask_refused(rt: &impl Print) -> io::Result<()> {
+    ask_conjunctions(rt, 0, 0)?;
+    ask_conjunctions(rt, 0, 1)?;
+    ask_conjunctions(rt, 1, 0)?;
+    ask_conjunctions(rt, 1, 6)?;
+    ask_conjunctions(rt, 1011600, u64::MAX)?;
+    ask_conjunctions(rt, 1011601, 1)?;
+    ask_conjunctions(rt, 1011601, 6)?;
+    ask_conjunctions(rt, u64::MAX, 3)
 }
 
-pub fn ask_planets() {
-    ask_all(1);
-    ask_all(2);
-    ask_all(293997);
-    ask_all(976859);
-    ask_all(1011600);
-    ask_refused();
-    ask_stages(1);
-    ask_stages(2);
-    ask_stages(3);
-    ask_stages(4);
-    ask_stages(5);
-    ask_stages(0);
-    ask_stages(6);
-    ask_stages(u64::MAX);
+pub fn ask_planets(rt: &impl Print) -> io::Result<()> {
+    ask_all(rt, 1)?;
+    ask_all(rt, 2)?;
+    ask_all(rt, 293997)?;
+    ask_all(rt, 976859)?;
+    ask_all(rt, 1011600)?;
+    ask_refused(rt)?;
+    ask_stages(rt, 1)?;
+    ask_stages(rt, 2)?;
+    ask_stages(rt, 3)?;
+    ask_stages(rt, 4)?;
+    ask_stages(rt, 5)?;
+    ask_stages(rt, 0)?;
+    ask_stages(rt, 6)?;
+    ask_stages(rt, u64::MAX)
 }

@@ -9,139 +9,140 @@ use calendar::{HeadAnswer, MonthRow, RowAnswer};
 use ephemeris::{CorrectionsAnswer, NodesAnswer, PhasesAnswer, PointAnswer};
 use lines::Line;
 use lunisolar::dates::{DateAnswer, DayAnswer};
+use std::io;
 use units::remainder::DayRemainder;
 
 fn asked_of_month(question: &[u8], year: u64, place: u64) -> Line {
     Line::new().text(question).number(year).number(place)
 }
 
-pub fn ask_head(year: u64) {
+pub fn ask_head(rt: &impl Print, year: u64) -> io::Result<()> {
     let line = Line::new().text(b"head").number(year);
     match calendar::heads::year_head(year) {
-        HeadAnswer::Answered(head) => fields::with_head(line, head).write(),
-        HeadAnswer::Refused(refusal) => line.refuse(refusal),
+        HeadAnswer::Answered(head) => fields::with_head(line, head).write(rt),
+        HeadAnswer::Refused(refusal) => line.refuse(rt, refusal),
     }
 }
 
-pub fn ask_row(year: u64, place: u64) {
+pub fn ask_row(rt: &impl Print, year: u64, place: u64) -> io::Result<()> {
     let line = asked_of_month(b"row", year, place);
     match calendar::rows::month_row(year, place) {
         RowAnswer::Answered(row) => fields::with_row(line, row)
             .number(lunisolar::sixty::sexagenary(row.day))
-            .write(),
-        RowAnswer::Refused(refusal) => line.refuse(refusal),
+            .write(rt),
+        RowAnswer::Refused(refusal) => line.refuse(rt, refusal),
     }
 }
 
-pub fn ask_phases(year: u64, place: u64) {
+pub fn ask_phases(rt: &impl Print, year: u64, place: u64) -> io::Result<()> {
     let line = asked_of_month(b"phases", year, place);
     match ephemeris::phases(year, place) {
-        PhasesAnswer::Answered(phases) => fields::with_phases(line, phases).write(),
-        PhasesAnswer::Refused(refusal) => line.refuse(refusal),
+        PhasesAnswer::Answered(phases) => fields::with_phases(line, phases).write(rt),
+        PhasesAnswer::Refused(refusal) => line.refuse(rt, refusal),
     }
 }
 
-pub fn ask_nodes(year: u64, place: u64) {
+pub fn ask_nodes(rt: &impl Print, year: u64, place: u64) -> io::Result<()> {
     let line = asked_of_month(b"nodes", year, place);
     match ephemeris::nodes(year, place) {
         NodesAnswer::Answered(nodes) => {
             let new = nodes.new;
             let side = nodes.side;
             let full = nodes.full;
-            fields::with_full_moon_node(fields::with_new_moon_node(line, new, side), full).write()
+            fields::with_full_moon_node(fields::with_new_moon_node(line, new, side), full).write(rt)
         }
-        NodesAnswer::Refused(refusal) => line.refuse(refusal),
+        NodesAnswer::Refused(refusal) => line.refuse(rt, refusal),
     }
 }
 
-pub fn ask_corrections(year: u64, place: u64) {
+pub fn ask_corrections(rt: &impl Print, year: u64, place: u64) -> io::Result<()> {
     let line = asked_of_month(b"corrections", year, place);
     match ephemeris::corrections(year, place) {
         CorrectionsAnswer::Answered(corrections) => {
             let new = corrections.new;
             let full = corrections.full;
             let with_new = fields::with_new_moon_correction(line, new);
-            fields::with_full_moon_correction(with_new, full).write()
+            fields::with_full_moon_correction(with_new, full).write(rt)
         }
-        CorrectionsAnswer::Refused(refusal) => line.refuse(refusal),
+        CorrectionsAnswer::Refused(refusal) => line.refuse(rt, refusal),
     }
 }
 
-pub fn ask_cut(year: u64, cut: u64, index: u64) {
+pub fn ask_cut(rt: &impl Print, year: u64, cut: u64, index: u64) -> io::Result<()> {
     let line = Line::new()
         .text(b"cut")
         .number(year)
         .number(cut)
         .number(index);
     match ephemeris::cut_point(year, cut, index) {
-        PointAnswer::Answered(point) => fields::with_point(line, point).write(),
-        PointAnswer::Refused(refusal) => line.refuse(refusal),
+        PointAnswer::Answered(point) => fields::with_point(line, point).write(rt),
+        PointAnswer::Refused(refusal) => line.refuse(rt, refusal),
     }
 }
 
-pub fn ask_day(year: u64, place: u64, day: u64) {
+pub fn ask_day(rt: &impl Print, year: u64, place: u64, day: u64) -> io::Result<()> {
     let line = asked_of_month(b"day", year, place).number(day);
     match calendar::dates::day_of_date(year, place, day) {
-        DayAnswer::Answered(found) => fields::with_day(line, found).write(),
-        DayAnswer::Refused(refusal) => line.refuse(refusal),
+        DayAnswer::Answered(found) => fields::with_day(line, found).write(rt),
+        DayAnswer::Refused(refusal) => line.refuse(rt, refusal),
     }
 }
 
 // Every calendar answers a date alike.
-pub fn write_date(line: Line, answer: DateAnswer) {
+pub fn write_date(rt: &impl Print, line: Line, answer: DateAnswer) -> io::Result<()> {
     match answer {
         DateAnswer::Answered(date) => line
             .number(date.year)
             .number(date.place)
             .number(date.day)
-            .write(),
-        DateAnswer::Refused(refusal) => line.refuse(refusal),
+            .write(rt),
+        DateAnswer::Refused(refusal) => line.refuse(rt, refusal),
     }
 }
 
-pub fn ask_date(number: u64) {
+pub fn ask_date(rt: &impl Print, number: u64) -> io::Result<()> {
     let line = Line::new().text(b"date").number(number);
-    write_date(line, calendar::dates::date_of_day(number));
+    write_date(rt, line, calendar::dates::date_of_day(number))
 }
 
-fn write_carried(line: Line, answer: RowAnswer) {
+fn write_carried(rt: &impl Print, line: Line, answer: RowAnswer) -> io::Result<()> {
     match answer {
-        RowAnswer::Answered(row) => fields::with_row(line.text(b" ->"), row).write(),
-        RowAnswer::Refused(refusal) => line.refuse(refusal),
+        RowAnswer::Answered(row) => fields::with_row(line.text(b" ->"), row).write(rt),
+        RowAnswer::Refused(refusal) => line.refuse(rt, refusal),
     }
 }
 
-pub fn ask_carry(lunation: u64, count: i64)
+pub fn ask_carry(rt: &impl Print, lunation: u64, count: i64) -> io::Result<()>
     requires { lunation < round_months }
 {
     let line = Line::new().text(b"carry").number(lunation).signed(count);
-    write_carried(line, calendar::rows::row_of(lunation).carry(count));
+    write_carried(rt, line, calendar::rows::row_of(lunation).carry(count))
 }
 
 // The month after, and the month before.
-pub fn ask_next(lunation: u64)
+pub fn ask_next(rt: &impl Print, lunation: u64) -> io::Result<()>
     requires { lunation < round_months }
 {
     let line = Line::new().text(b"next").number(lunation);
-    write_carried(line, calendar::rows::row_of(lunation).next());
+    write_carried(rt, line, calendar::rows::row_of(lunation).next())
 }
 
-pub fn ask_back(lunation: u64)
+pub fn ask_back(rt: &impl Print, lunation: u64) -> io::Result<()>
     requires { lunation < round_months }
 {
     let line = Line::new().text(b"back").number(lunation);
-    write_carried(line, calendar::rows::row_of(lunation).back());
+    write_carried(rt, line, calendar::rows::row_of(lunation).back())
 }
 
-fn write_forged(line: Line, answer: RowAnswer) {
+fn write_forged(rt: &impl Print, line: Line, answer: RowAnswer) -> io::Result<()> {
     match answer {
-        RowAnswer::Answered(_) => line.text(b" taken").write(),
-        RowAnswer::Refused(refusal) => line.refuse(refusal),
+        RowAnswer::Answered(_) => line.text(b" taken").write(rt),
+        RowAnswer::Refused(refusal) => line.refuse(rt, refusal),
     }
 }
 
 // A row with one number changed, which no carry may take.
-fn ask_forged(lunation: u64, field: usize, count: i64)
+fn ask_forged(rt: &impl Print, lunation: u64, field: usize, count: i64) -> io::Result<()>
     requires { (lunation < round_months) × (field < field_count) }
 {
     let mut numbers = calendar::rows::row_of(lunation).fields();
@@ -151,17 +152,18 @@ fn ask_forged(lunation: u64, field: usize, count: i64)
         .number(lunation)
         .number(field as u64)
         .signed(count);
-    write_forged(line, calendar::carries::carry_fields(&numbers, count));
+    write_forged(rt, line, calendar::carries::carry_fields(&numbers, count))
 }
 
-pub fn ask_forged_fields(lunation: u64, count: i64)
+pub fn ask_forged_fields(rt: &impl Print, lunation: u64, count: i64) -> io::Result<()>
     requires { lunation < round_months }
 {
     let mut field = 0;
     while field < FIELDS {
-        ask_forged(lunation, field, count);
+        ask_forged(rt, lunation, field, count)?;
         field += 1;
     }
+    Ok(())
 }
 
 // A row whose small remainder is changed, which no step may take.
@@ -177,11 +179,11 @@ fn forged_row(lunation: u64) -> MonthRow
     row
 }
 
-pub fn ask_forged_steps(lunation: u64)
+pub fn ask_forged_steps(rt: &impl Print, lunation: u64) -> io::Result<()>
     requires { lunation < round_months }
 {
     let next = Line::new().text(b"forged-next").number(lunation);
-    write_forged(next, forged_row(lunation).next());
+    write_forged(rt, next, forged_row(lunation).next())?;
     let back = Line::new().text(b"forged-back").number(lunation);
-    write_forged(back, forged_row(lunation).back());
+    write_forged(rt, back, forged_row(lunation).back())
 }

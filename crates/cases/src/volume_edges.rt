@@ -3,6 +3,7 @@ ghost use Rattle.std.specs.Prelude.{◌≡◌, ◌≤◌, length};
 
 use lines::Line;
 use lines::digest::Digest;
+use std::io;
 use volumes::reader::ReadAnswer;
 use volumes::writer::WriteAnswer;
 
@@ -36,7 +37,7 @@ fn write_in(first: u64, last: u64, room: usize) -> Writing
 }
 
 // How many bytes are written, and the digest of the whole buffer afterwards.
-fn ask_write(first: u64, last: u64, room: usize)
+fn ask_write(rt: &impl Print, first: u64, last: u64, room: usize) -> io::Result<()>
     requires { room ≤ 2048 }
 {
     let line = Line::new()
@@ -49,8 +50,8 @@ fn ask_write(first: u64, last: u64, room: usize)
     let digest = Digest::new().feed_bytes(&buffer);
     let answer = writing.answer;
     match answer {
-        WriteAnswer::Written(n) => line.number(n).number(digest.value()).write(),
-        WriteAnswer::Refused(e) => line.refuse(e),
+        WriteAnswer::Written(n) => line.number(n).number(digest.value()).write(rt),
+        WriteAnswer::Refused(e) => line.refuse(rt, e),
     }
 }
 
@@ -67,7 +68,14 @@ pub fn altered(first: u64, last: u64, at: usize, byte: u8) -> [u8; BUFFER]
 }
 
 // The years of the first so many bytes, after one byte was altered.
-fn ask_read(first: u64, last: u64, at: usize, byte: u8, length: usize)
+fn ask_read(
+    rt: &impl Print,
+    first: u64,
+    last: u64,
+    at: usize,
+    byte: u8,
+    length: usize,
+) -> io::Result<()>
     requires { length ≤ 2048 }
 {
     let line = Line::new()
@@ -79,95 +87,95 @@ fn ask_read(first: u64, last: u64, at: usize, byte: u8, length: usize)
         .number(length as u64);
     let buffer = altered(first, last, at, byte);
     match volumes::reader::read(&buffer[..length]) {
-        ReadAnswer::Years(first, last) => line.number(first).number(last).write(),
-        ReadAnswer::Refused(e) => line.refuse(e),
+        ReadAnswer::Years(first, last) => line.number(first).number(last).write(rt),
+        ReadAnswer::Refused(e) => line.refuse(rt, e),
     }
 }
 
 // Both ends of the round, an era's head, years of twelve and thirteen months, as many as there is room for.
-fn ask_written() {
-    ask_write(1, 1, 512);
-    ask_write(1, 1, 2048);
-    ask_write(3, 3, 513);
-    ask_write(1, 4, 2048);
-    ask_write(2, 3, 1535);
-    ask_write(293996, 293998, 1536);
-    ask_write(168600, 168600, 512);
-    ask_write(168600, 168602, 2048);
-    ask_write(1011600, 1011600, 512);
-    ask_write(1011597, 1011600, 2048);
+fn ask_written(rt: &impl Print) -> io::Result<()> {
+    ask_write(rt, 1, 1, 512)?;
+    ask_write(rt, 1, 1, 2048)?;
+    ask_write(rt, 3, 3, 513)?;
+    ask_write(rt, 1, 4, 2048)?;
+    ask_write(rt, 2, 3, 1535)?;
+    ask_write(rt, 293996, 293998, 1536)?;
+    ask_write(rt, 168600, 168600, 512)?;
+    ask_write(rt, 168600, 168602, 2048)?;
+    ask_write(rt, 1011600, 1011600, 512)?;
+    ask_write(rt, 1011597, 1011600, 2048)
 }
 
 // Too little room; then what is refused for its years, of which the lowest number counts.
-fn ask_writing_refused() {
-    ask_write(1, 1, 0);
-    ask_write(1, 1, 511);
-    ask_write(1, 4, 2047);
-    ask_write(1, 5, 2048);
-    ask_write(1, 1011600, 2048);
-    ask_write(2, 1, 2048);
-    ask_write(1011600, 1, 0);
-    ask_write(0, 0, 2048);
-    ask_write(0, 1, 0);
-    ask_write(1, 0, 2048);
-    ask_write(1011600, 1011601, 2048);
-    ask_write(1011601, 1011600, 0);
-    ask_write(1, u64::MAX, 2048);
-    ask_write(u64::MAX, 1, 0);
+fn ask_writing_refused(rt: &impl Print) -> io::Result<()> {
+    ask_write(rt, 1, 1, 0)?;
+    ask_write(rt, 1, 1, 511)?;
+    ask_write(rt, 1, 4, 2047)?;
+    ask_write(rt, 1, 5, 2048)?;
+    ask_write(rt, 1, 1011600, 2048)?;
+    ask_write(rt, 2, 1, 2048)?;
+    ask_write(rt, 1011600, 1, 0)?;
+    ask_write(rt, 0, 0, 2048)?;
+    ask_write(rt, 0, 1, 0)?;
+    ask_write(rt, 1, 0, 2048)?;
+    ask_write(rt, 1011600, 1011601, 2048)?;
+    ask_write(rt, 1011601, 1011600, 0)?;
+    ask_write(rt, 1, u64::MAX, 2048)?;
+    ask_write(rt, u64::MAX, 1, 0)
 }
 
 // Whole volumes, a cut between blocks, lengths that are none, blocks that are missing or past the round.
-fn ask_whole() {
-    ask_read(1, 1, WHOLE, 0, 512);
-    ask_read(1, 4, WHOLE, 0, 2048);
-    ask_read(1, 4, WHOLE, 0, 1536);
-    ask_read(293996, 293998, WHOLE, 0, 1536);
-    ask_read(168600, 168602, WHOLE, 0, 1536);
-    ask_read(1011600, 1011600, WHOLE, 0, 512);
-    ask_read(1011597, 1011600, WHOLE, 0, 2048);
-    ask_read(1, 1, WHOLE, 0, 0);
-    ask_read(1, 1, WHOLE, 0, 511);
-    ask_read(1, 1, WHOLE, 0, 513);
-    ask_read(1, 4, 0, 9, 2047);
-    ask_read(1, 1, WHOLE, 0, 1024);
-    ask_read(1011600, 1011600, WHOLE, 0, 1024);
+fn ask_whole(rt: &impl Print) -> io::Result<()> {
+    ask_read(rt, 1, 1, WHOLE, 0, 512)?;
+    ask_read(rt, 1, 4, WHOLE, 0, 2048)?;
+    ask_read(rt, 1, 4, WHOLE, 0, 1536)?;
+    ask_read(rt, 293996, 293998, WHOLE, 0, 1536)?;
+    ask_read(rt, 168600, 168602, WHOLE, 0, 1536)?;
+    ask_read(rt, 1011600, 1011600, WHOLE, 0, 512)?;
+    ask_read(rt, 1011597, 1011600, WHOLE, 0, 2048)?;
+    ask_read(rt, 1, 1, WHOLE, 0, 0)?;
+    ask_read(rt, 1, 1, WHOLE, 0, 511)?;
+    ask_read(rt, 1, 1, WHOLE, 0, 513)?;
+    ask_read(rt, 1, 4, 0, 9, 2047)?;
+    ask_read(rt, 1, 1, WHOLE, 0, 1024)?;
+    ask_read(rt, 1011600, 1011600, WHOLE, 0, 1024)
 }
 
 // One altered byte: of the year, the count, the leap place, the zeros, the records, the totals and the check.
-fn ask_altered() {
-    ask_read(1, 1, 0, 0, 512);
-    ask_read(1, 1, 0, 2, 512);
-    ask_read(1011600, 1011600, 0, 145, 512);
-    ask_read(1, 1, 3, 1, 512);
-    ask_read(3, 3, 4, 12, 512);
-    ask_read(3, 3, 5, 8, 512);
-    ask_read(1, 1, 6, 1, 512);
-    ask_read(1, 1, 8, 1, 512);
-    ask_read(3, 3, 20, 31, 512);
-    ask_read(3, 3, 22, 1, 512);
-    ask_read(3, 3, 23, 1, 512);
-    ask_read(3, 3, 216, 0, 512);
-    ask_read(3, 3, 220, 0, 512);
-    ask_read(3, 3, 224, 0, 512);
-    ask_read(3, 3, 228, 1, 512);
-    ask_read(3, 3, 509, 1, 512);
-    ask_read(3, 3, 510, 0, 512);
-    ask_read(3, 3, 511, 0, 512);
+fn ask_altered(rt: &impl Print) -> io::Result<()> {
+    ask_read(rt, 1, 1, 0, 0, 512)?;
+    ask_read(rt, 1, 1, 0, 2, 512)?;
+    ask_read(rt, 1011600, 1011600, 0, 145, 512)?;
+    ask_read(rt, 1, 1, 3, 1, 512)?;
+    ask_read(rt, 3, 3, 4, 12, 512)?;
+    ask_read(rt, 3, 3, 5, 8, 512)?;
+    ask_read(rt, 1, 1, 6, 1, 512)?;
+    ask_read(rt, 1, 1, 8, 1, 512)?;
+    ask_read(rt, 3, 3, 20, 31, 512)?;
+    ask_read(rt, 3, 3, 22, 1, 512)?;
+    ask_read(rt, 3, 3, 23, 1, 512)?;
+    ask_read(rt, 3, 3, 216, 0, 512)?;
+    ask_read(rt, 3, 3, 220, 0, 512)?;
+    ask_read(rt, 3, 3, 224, 0, 512)?;
+    ask_read(rt, 3, 3, 228, 1, 512)?;
+    ask_read(rt, 3, 3, 509, 1, 512)?;
+    ask_read(rt, 3, 3, 510, 0, 512)?;
+    ask_read(rt, 3, 3, 511, 0, 512)
 }
 
 // Altered in the second block: three times it is refused, then it is not read, and then the byte is what it was.
-fn ask_second_block() {
-    ask_read(2, 3, 512, 4, 1024);
-    ask_read(2, 3, 728, 0, 1024);
-    ask_read(2, 3, 1023, 255, 1024);
-    ask_read(2, 3, 1023, 255, 512);
-    ask_read(2, 3, 512, 3, 1024);
+fn ask_second_block(rt: &impl Print) -> io::Result<()> {
+    ask_read(rt, 2, 3, 512, 4, 1024)?;
+    ask_read(rt, 2, 3, 728, 0, 1024)?;
+    ask_read(rt, 2, 3, 1023, 255, 1024)?;
+    ask_read(rt, 2, 3, 1023, 255, 512)?;
+    ask_read(rt, 2, 3, 512, 3, 1024)
 }
 
-pub fn ask_volumes() {
-    ask_written();
-    ask_writing_refused();
-    ask_whole();
-    ask_altered();
-    ask_second_block();
+pub fn ask_volumes(rt: &impl Print) -> io::Result<()> {
+    ask_written(rt)?;
+    ask_writing_refused(rt)?;
+    ask_whole(rt)?;
+    ask_altered(rt)?;
+    ask_second_block(rt)
 }

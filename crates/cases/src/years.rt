@@ -1,5 +1,6 @@
 // Full answers for chosen years.
 use crate::questions;
+use std::io;
 
 // The years at the seams of the round; years in which the days of the middle terms decide, a leap place one or two before the chapter's (6,
 // 28, 41, 52, 294,000) and a thirteenth month that the chapter gives to the year after (19 and 20, 1,011,285 and 1,011,286); and one that
@@ -9,58 +10,63 @@ const SEAMS: [u64; 25] = [
     505801, 674400, 674401, 843000, 843001, 1011285, 1011286, 1011600,
 ];
 
-fn ask_month(year: u64, place: u64) {
-    questions::ask_row(year, place);
-    questions::ask_phases(year, place);
-    questions::ask_nodes(year, place);
-    questions::ask_corrections(year, place);
+fn ask_month(rt: &impl Print, year: u64, place: u64) -> io::Result<()> {
+    questions::ask_row(rt, year, place)?;
+    questions::ask_phases(rt, year, place)?;
+    questions::ask_nodes(rt, year, place)?;
+    questions::ask_corrections(rt, year, place)
 }
 
-fn ask_months(year: u64) {
+fn ask_months(rt: &impl Print, year: u64) -> io::Result<()> {
     let months = calendar::heads::year_head(year).values().months;
     let mut place = 0;
     while place < months {
-        ask_month(year, place);
+        ask_month(rt, year, place)?;
         place += 1;
     }
+    Ok(())
 }
 
-fn ask_terms(year: u64) {
+fn ask_terms(rt: &impl Print, year: u64) -> io::Result<()> {
     let mut index = 0;
     while index < 24 {
-        questions::ask_cut(year, 24, index);
+        questions::ask_cut(rt, year, 24, index)?;
         index += 1;
     }
+    Ok(())
 }
 
-fn ask_year(year: u64) {
-    questions::ask_head(year);
-    ask_months(year);
-    ask_terms(year);
+fn ask_year(rt: &impl Print, year: u64) -> io::Result<()> {
+    questions::ask_head(rt, year)?;
+    ask_months(rt, year)?;
+    ask_terms(rt, year)
 }
 
 // 41 years at even distances over the round.
-pub fn ask_spread() {
+pub fn ask_spread(rt: &impl Print) -> io::Result<()> {
     let mut i = 0;
     while i < 41 {
-        ask_year(1 + 25289 * i);
+        ask_year(rt, 1 + 25289 * i)?;
         i += 1;
     }
+    Ok(())
 }
 
-pub fn ask_seams() {
+pub fn ask_seams(rt: &impl Print) -> io::Result<()> {
     let mut i = 0;
     while i < 25 {
-        ask_year(SEAMS[i]);
+        ask_year(rt, SEAMS[i])?;
         i += 1;
     }
+    Ok(())
 }
 
 // The heads of a whole chapter, so that each entry of the printed chapter is written, and of the year that begins the next.
-pub fn ask_chapter() {
+pub fn ask_chapter(rt: &impl Print) -> io::Result<()> {
     let mut past = 0;
     while past <= units::Xinghe::CHAPTER {
-        questions::ask_head(past + 1);
+        questions::ask_head(rt, past + 1)?;
         past += 1;
     }
+    Ok(())
 }

@@ -7,6 +7,7 @@ use crate::{fields, mean_questions, questions};
 use lines::Line;
 use lines::digest::Digest;
 use mean_year::PLACES;
+use std::io;
 use zhengguang::rows::{FIELDS, RowFields};
 use zhengguang::walks::ZhengguangWalkAnswer;
 use zhengguang::{
@@ -36,26 +37,26 @@ fn head_numbers(head: ZhengguangHead) -> [u64; 6] {
     ]
 }
 
-pub fn ask_head(year: u64) {
+pub fn ask_head(rt: &impl Print, year: u64) -> io::Result<()> {
     let line = asked(b"head").number(year);
     match zhengguang::heads::year_head(year) {
         ZhengguangHeadAnswer::Answered(head) => {
             let numbers = head_numbers(head);
-            fields::with_numbers(line, &numbers).write()
+            fields::with_numbers(line, &numbers).write(rt)
         }
-        ZhengguangHeadAnswer::Refused(refusal) => line.refuse(refusal),
+        ZhengguangHeadAnswer::Refused(refusal) => line.refuse(rt, refusal),
     }
 }
 
-pub fn ask_row(year: u64, place: u64) {
+pub fn ask_row(rt: &impl Print, year: u64, place: u64) -> io::Result<()> {
     let line = asked_of_month(b"row", year, place);
     match zhengguang::rows::month_row(year, place) {
         ZhengguangRowAnswer::Answered(row) => {
             let mean = row.mean;
             let numbers = row.fields();
-            mean_questions::write_row(line, &numbers, mean.day)
+            mean_questions::write_row(rt, line, &numbers, mean.day)
         }
-        ZhengguangRowAnswer::Refused(refusal) => line.refuse(refusal),
+        ZhengguangRowAnswer::Refused(refusal) => line.refuse(rt, refusal),
     }
 }
 
@@ -66,63 +67,63 @@ fn with_distance(line: Line, distance: NodeDistance) -> Line {
         .number(distance.half)
 }
 
-pub fn ask_nodes(year: u64, place: u64) {
+pub fn ask_nodes(rt: &impl Print, year: u64, place: u64) -> io::Result<()> {
     let line = asked_of_month(b"nodes", year, place);
     match zhengguang::nodes::nodes(year, place) {
         MonthNodesAnswer::Answered(nodes) => {
             let new = nodes.new;
             let full = nodes.full;
-            with_distance(with_distance(line, new), full).write()
+            with_distance(with_distance(line, new), full).write(rt)
         }
-        MonthNodesAnswer::Refused(refusal) => line.refuse(refusal),
+        MonthNodesAnswer::Refused(refusal) => line.refuse(rt, refusal),
     }
 }
 
-pub fn ask_cut(year: u64, cut: u64, index: u64) {
+pub fn ask_cut(rt: &impl Print, year: u64, cut: u64, index: u64) -> io::Result<()> {
     let line = asked(b"cut").number(year).number(cut).number(index);
-    mean_questions::write_point(line, Zhengguang::cut_point(year, cut, index));
+    mean_questions::write_point(rt, line, Zhengguang::cut_point(year, cut, index))
 }
 
-pub fn ask_day(year: u64, place: u64, day: u64) {
+pub fn ask_day(rt: &impl Print, year: u64, place: u64, day: u64) -> io::Result<()> {
     let line = asked_of_month(b"day", year, place).number(day);
-    mean_questions::write_day(line, Zhengguang::day_of_date(year, place, day));
+    mean_questions::write_day(rt, line, Zhengguang::day_of_date(year, place, day))
 }
 
-pub fn ask_date(number: u64) {
+pub fn ask_date(rt: &impl Print, number: u64) -> io::Result<()> {
     let line = asked(b"date").number(number);
-    questions::write_date(line, Zhengguang::date_of_day(number));
+    questions::write_date(rt, line, Zhengguang::date_of_day(number))
 }
 
-fn write_carried(line: Line, answer: ZhengguangRowAnswer) {
+fn write_carried(rt: &impl Print, line: Line, answer: ZhengguangRowAnswer) -> io::Result<()> {
     match answer {
         ZhengguangRowAnswer::Answered(row) => {
             let numbers = row.fields();
-            mean_questions::write_carried(line, &numbers)
+            mean_questions::write_carried(rt, line, &numbers)
         }
-        ZhengguangRowAnswer::Refused(refusal) => line.refuse(refusal),
+        ZhengguangRowAnswer::Refused(refusal) => line.refuse(rt, refusal),
     }
 }
 
-pub fn ask_carry(lunation: u64, count: i64)
+pub fn ask_carry(rt: &impl Print, lunation: u64, count: i64) -> io::Result<()>
     requires { lunation < round_months }
 {
     let line = asked(b"carry").number(lunation).signed(count);
-    write_carried(line, zhengguang::rows::row_of(lunation).carry(count));
+    write_carried(rt, line, zhengguang::rows::row_of(lunation).carry(count))
 }
 
 // The month after, and the month before.
-pub fn ask_next(lunation: u64)
+pub fn ask_next(rt: &impl Print, lunation: u64) -> io::Result<()>
     requires { lunation < round_months }
 {
     let line = asked(b"next").number(lunation);
-    write_carried(line, zhengguang::rows::row_of(lunation).next());
+    write_carried(rt, line, zhengguang::rows::row_of(lunation).next())
 }
 
-pub fn ask_back(lunation: u64)
+pub fn ask_back(rt: &impl Print, lunation: u64) -> io::Result<()>
     requires { lunation < round_months }
 {
     let line = asked(b"back").number(lunation);
-    write_carried(line, zhengguang::rows::row_of(lunation).back());
+    write_carried(rt, line, zhengguang::rows::row_of(lunation).back())
 }
 
 // A row with one number changed, which neither a carry nor a walk may take.
@@ -134,52 +135,54 @@ fn forged(lunation: u64, field: usize) -> RowFields
     numbers
 }
 
-fn ask_forged(lunation: u64, field: usize)
+fn ask_forged(rt: &impl Print, lunation: u64, field: usize) -> io::Result<()>
     requires { (lunation < round_months) × (field < field_count) }
 {
     let line = asked(b"forged").number(lunation).number(field as u64);
     let numbers = forged(lunation, field);
-    write_carried(line, zhengguang::carries::carry_fields(&numbers, 0));
+    write_carried(rt, line, zhengguang::carries::carry_fields(&numbers, 0))
 }
 
-pub fn ask_forged_fields(lunation: u64)
+pub fn ask_forged_fields(rt: &impl Print, lunation: u64) -> io::Result<()>
     requires { lunation < round_months }
 {
     let mut field = 0;
     while field < FIELDS {
-        ask_forged(lunation, field);
+        ask_forged(rt, lunation, field)?;
         field += 1;
     }
+    Ok(())
 }
 
-fn write_walk(line: Line, answer: ZhengguangWalkAnswer) {
+fn write_walk(rt: &impl Print, line: Line, answer: ZhengguangWalkAnswer) -> io::Result<()> {
     match answer {
         ZhengguangWalkAnswer::Answered(end) => {
             let row = end.row;
             let numbers = row.fields();
-            mean_questions::write_walk(line, &numbers, end.sum, end.answered)
+            mean_questions::write_walk(rt, line, &numbers, end.sum, end.answered)
         }
-        ZhengguangWalkAnswer::Refused(refusal) => line.refuse(refusal),
+        ZhengguangWalkAnswer::Refused(refusal) => line.refuse(rt, refusal),
     }
 }
 
-pub fn ask_walk(lunation: u64, counts: &[i64])
+pub fn ask_walk(rt: &impl Print, lunation: u64, counts: &[i64]) -> io::Result<()>
     requires { lunation < round_months }
 {
     let line = asked(b"walk").number(lunation);
     let row = zhengguang::rows::row_of(lunation);
-    write_walk(line, zhengguang::walks::walk(row, counts));
+    write_walk(rt, line, zhengguang::walks::walk(row, counts))
 }
 
 // The small remainder is changed.
-pub fn ask_forged_walk(lunation: u64, counts: &[i64])
+pub fn ask_forged_walk(rt: &impl Print, lunation: u64, counts: &[i64]) -> io::Result<()>
     requires { lunation < round_months }
 {
     let numbers = forged(lunation, 6);
     write_walk(
+        rt,
         asked(b"walk forged"),
         zhengguang::walks::walk_fields(&numbers, counts),
-    );
+    )
 }
 
 // Every place of the list: those past the year's months are zero.
@@ -194,7 +197,7 @@ fn fed_rows(digest: Digest, rows: [ZhengguangRow; PLACES]) -> Digest {
     fed
 }
 
-pub fn ask_list(year: u64) {
+pub fn ask_list(rt: &impl Print, year: u64) -> io::Result<()> {
     let line = asked(b"list").number(year);
     let list = zhengguang::years::year_by_value(year);
     let rows = list.rows;
@@ -203,8 +206,8 @@ pub fn ask_list(year: u64) {
         ZhengguangHeadAnswer::Answered(head) => {
             let numbers = head_numbers(head);
             let digest = mean_questions::fed_numbers(Digest::new(), &numbers);
-            line.number(fed_rows(digest, rows).value()).write()
+            line.number(fed_rows(digest, rows).value()).write(rt)
         }
-        ZhengguangHeadAnswer::Refused(refusal) => line.refuse(refusal),
+        ZhengguangHeadAnswer::Refused(refusal) => line.refuse(rt, refusal),
     }
 }

@@ -1,5 +1,6 @@
 // Lines of output for the programs cases and survey, and digests of what they are about. A line is built by value and written by one system call, since a call for each number would take most of the run.
 #![tactic(auto)]
+
 use refusal::Refusal;
 use walking::Sign;
 
@@ -14,10 +15,11 @@ pub struct Line {
     pub len: usize,
 }
 
-fn send(bytes: &[u8], len: usize) {
+fn send(rt: &impl Print, bytes: &[u8], len: usize) -> std::io::Result<()> {
     if len <= bytes.len() {
-        io::write_all(libc::STDOUT_FILENO, &bytes[..len]);
+        rt.write_all(&bytes[..len])?;
     }
+    Ok(())
 }
 
 impl Line {
@@ -67,14 +69,14 @@ impl Line {
     }
 
     // Ends and writes the line.
-    pub fn write(self) {
+    pub fn write(self, rt: &impl Print) -> std::io::Result<()> {
         let ended = self.byte(b'\n');
         let bytes = ended.bytes;
-        send(&bytes, ended.len);
+        send(rt, &bytes, ended.len)
     }
 
     // Writes the question with the number of its refusal.
-    pub fn refuse(self, refusal: Refusal) {
-        self.text(b" refused").number(refusal.number()).write();
+    pub fn refuse(self, rt: &impl Print, refusal: Refusal) -> std::io::Result<()> {
+        self.text(b" refused").number(refusal.number()).write(rt)
     }
 }

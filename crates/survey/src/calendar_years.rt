@@ -6,6 +6,7 @@ use linde::Linde;
 use lines::Line;
 use lines::digest::Digest;
 use mean_calendar::{MeanHead, MeanMonth};
+use std::io;
 
 // What is known of the years asked so far.
 #[derive(Clone, Copy)]
@@ -83,14 +84,14 @@ impl CalendarSurvey {
         }
     }
 
-    pub fn write(self, title: Line) {
+    pub fn write(self, rt: &impl Print, title: Line) -> io::Result<()> {
         let counts = self.counts;
         let digest = self.digest;
         counts
             .on_line(title)
             .text(b" digest")
             .number(digest.value())
-            .write();
+            .write(rt)
     }
 }
 

@@ -1,6 +1,7 @@
 // The survey: counts and a digest over every number that the calendar answers, for each era and for the round, and then for the Zhengguang and
 // the Linde calendar, in the lines that the independent second program writes.
 #![tactic(auto)]
+
 mod calendar_years;
 mod calendars;
 mod counts;
@@ -12,26 +13,27 @@ mod years;
 
 use calendars::Calendar;
 use lines::Line;
+use std::io;
 use years::Survey;
 
 // The eras of the round (元).
 const ERAS: u64 = 6;
 
-fn survey_round() -> Survey {
+fn survey_round(rt: &impl Print) -> io::Result<Survey> {
     let ganzhi = names::ganzhi::names();
     let mut round = Survey::new();
     let mut i = 0;
     while i < ERAS {
         let era = years::survey_era(i * years::ERA_YEARS, &ganzhi);
-        era.write(Line::new().text(b"era").number(i + 1));
+        era.write(rt, Line::new().text(b"era").number(i + 1))?;
         round = round.add_era(era);
         i += 1;
     }
-    round
+    Ok(round)
 }
 
-fn main() {
-    survey_round().write(Line::new().text(b"round"));
-    calendar_years::survey_years(Calendar::Zhengguang).write(Line::new().text(b"zhengguang"));
-    calendar_years::survey_years(Calendar::Linde).write(Line::new().text(b"linde"));
+fn main(rt: HostRuntime) -> io::Result<()> {
+    survey_round(&rt)?.write(&rt, Line::new().text(b"round"))?;
+    calendar_years::survey_years(Calendar::Zhengguang).write(&rt, Line::new().text(b"zhengguang"))?;
+    calendar_years::survey_years(Calendar::Linde).write(&rt, Line::new().text(b"linde"))
 }

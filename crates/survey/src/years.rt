@@ -5,6 +5,7 @@ use crate::counts::Counts;
 use crate::{fields, mended, reign, volume};
 use lines::Line;
 use lines::digest::Digest;
+use std::io;
 
 // The years of an era (紀).
 pub const ERA_YEARS: u64 = 168600;
@@ -125,7 +126,7 @@ impl Survey {
         }
     }
 
-    pub fn write(self, title: Line) {
+    pub fn write(self, rt: &impl Print, title: Line) -> io::Result<()> {
         let counts = self.counts;
         let digest = self.digest;
         let planets = self.planets;
@@ -144,7 +145,7 @@ impl Survey {
             .number(marked.value())
             .text(b" mended")
             .number(mended.value())
-            .write();
+            .write(rt)
     }
 }
 

@@ -1,9 +1,11 @@
 // Reads one line with a first and a last year from standard input and writes the volume of these years, both included, block by block.
 #![tactic(auto)]
+
 ghost use Rattle.std.specs.Prelude.{◌+◌, ◌≤◌};
 ghost use Rattle.units.specs.Xinghe.{round_years};
 
-use libc::{STDIN_FILENO, STDOUT_FILENO};
+use std::io;
+use std::io::Read;
 use volume_text::reader::SpanReader;
 use volumes::reader::ReadAnswer;
 use volumes::writer::SpanAnswer;
@@ -11,16 +13,13 @@ use volumes::writer::SpanAnswer;
 // One byte at a time, so that what follows the line is left for whoever reads next. The line ends at a newline, at the end of the input, and where it
 // is settled. A read that fails leaves a line that isn't known: it asks for no year. A proved loop has to end: the turns are more than any run uses
 // up.
-fn read_span() -> SpanReader {
+fn read_span<R: Read>(input: &mut R) -> SpanReader {
     let mut reader = SpanReader::new();
-    let mut turns = u64::MAX;
-    while turns > 0 {
-        turns -= 1;
+    for _ in 0..u64::MAX {
         let mut byte = [0u8; 1];
-        let got = libc::read(STDIN_FILENO, &mut byte);
-        if got < 0 {
+        let Ok(got) = input.read(&mut byte) else {
             return SpanReader::new();
-        }
+        };
         if (got == 0) | (byte[0] == b'\n') {
             return reader;
         }
@@ -33,30 +32,29 @@ fn read_span() -> SpanReader {
 }
 
 // It ends where a write does not go through: nobody reads on.
-fn write_blocks(first: u64, n: u64)
+fn write_blocks(rt: &impl Print, first: u64, n: u64) -> io::Result<()>
     requires { (1 ≤ first) × (first + n ≤ round_years + 1) }
 {
     let mut i = 0;
     while i < n {
         let block = volumes::block(first, first + i);
-        if !io::write_all(STDOUT_FILENO, &block) {
-            return;
-        }
+        rt.write_all(&block)?;
         i += 1;
     }
+    Ok(())
 }
 
-fn main() {
-    let reader = read_span();
+fn main(rt: HostRuntime) -> io::Result<()> {
+    let reader = read_span(&mut rt.stdin());
     match reader.span() {
         SpanAnswer::Years(n) => {
             let first = reader.first;
-            write_blocks(first.year, n)
+            write_blocks(&rt, first.year, n)
         }
         SpanAnswer::Refused(e) => {
             let mut line = [0u8; 64];
             let n = volume_text::writer::render(ReadAnswer::Refused(e), &mut line);
-            io::write_all(STDOUT_FILENO, &line[..n]);
+            rt.write_all(&line[..n])
         }
     }
 }

@@ -1,6 +1,8 @@
 // Reads one line with a year from standard input and prints the year.
 #![tactic(auto)]
-use libc::{STDIN_FILENO, STDOUT_FILENO};
+
+use std::io;
+use std::io::{ErrorKind, Read};
 use year_text::reader::{Reader, Step};
 
 #[derive(Clone, Copy)]
@@ -17,29 +19,32 @@ enum Input {
 const NO_YEAR: u64 = 0;
 
 // One byte at a time, so that what follows the line is left for whoever reads next.
-fn next_byte() -> Input {
+fn next_byte<R: Read>(input: &mut R) -> Input {
     let mut byte = [0u8; 1];
-    let got = libc::read(STDIN_FILENO, &mut byte);
-    if 0 < got {
-        return Input::Byte(byte[0]);
+    match input.read(&mut byte) {
+        Ok(got) => {
+            if 0 < got {
+                Input::Byte(byte[0])
+            } else {
+                Input::End
+            }
+        }
+        Err(e) => {
+            if e.kind() == ErrorKind::Interrupted {
+                Input::Interrupted
+            } else {
+                Input::Failed
+            }
+        }
     }
-    if got == 0 {
-        return Input::End;
-    }
-    if os::errno() == libc::EINTR {
-        return Input::Interrupted;
-    }
-    Input::Failed
 }
 
 // What `year_text::reader::year_asked` does with a list of bytes, with bytes as they come. A proved loop has to end, and nothing says that an
-// input does: the loop counts its turns down from a number that no run uses up.
-fn read_year() -> u64 {
+// input does: the loop has more turns than any run uses up.
+fn read_year<R: Read>(input: &mut R) -> u64 {
     let mut reader = Reader::new();
-    let mut turns = u64::MAX;
-    while turns > 0 {
-        turns -= 1;
-        match next_byte() {
+    for _ in 0..u64::MAX {
+        match next_byte(input) {
             Input::Byte(byte) => match reader.step(byte) {
                 Step::Year(year) => return year,
                 Step::More(next) => reader = next,
@@ -52,8 +57,8 @@ fn read_year() -> u64 {
     NO_YEAR
 }
 
-fn main() {
+fn main(rt: HostRuntime) -> io::Result<()> {
     let mut out = [0u8; 2048];
-    let n = year_text::writer::render(read_year(), &mut out);
-    io::write_all(STDOUT_FILENO, &out[..n]);
+    let n = year_text::writer::render(read_year(&mut rt.stdin()), &mut out);
+    rt.write_all(&out[..n])
 }

@@ -1,0 +1,10 @@
+use Rattle.std.proofs.Common.{◌-◌, ◌<◌, ◌≤◌}
+use Rattle.calendar.specs.Rows.{field_count}
+use Rattle.units.specs.Xinghe.{round_months}
+use Rattle.cases.proofs.questions.ask_forged_fields.Given as goal
+
+abbrev pub invariant-loop-field : goal.invariant-loop-field
+invariant-loop-field g l = (l.lunation < round_months) × (l.field ≤ field_count)
+
+abbrev pub decreases-loop-field : goal.decreases-loop-field
+decreases-loop-field g l = field_count - l.field
