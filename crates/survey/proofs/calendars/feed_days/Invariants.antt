@@ -1,4 +1,4 @@
-use Rattle.std.proofs.Common.{◌-◌, ◌≤◌, length}
+use Rattle.std.proofs.Common.{◌-◌, ◌≤◌}
 use Rattle.survey.proofs.calendars.feed_days.Given as goal
 
 abbrev pub invariant-loop-past : goal.invariant-loop-past
