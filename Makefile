@@ -29,7 +29,8 @@ need_rt = command -v rt >/dev/null || \
 quietly = mkdir -p target && { $(1) >target/$(2) 2>&1 || \
 	{ tail -n 20 target/$(2) >&2; echo '$(1) failed; its lines are in target/$(2)' >&2; exit 1; }; }
 
-# The gate: everything proved from nothing, every wrong program refused, every program run.
+# The gate: everything proved, every wrong program refused, every program run. The toolchain takes over what it passed before, on this
+# machine and with the same files.
 test:
 	@$(need_rt)
 	.ci/run
