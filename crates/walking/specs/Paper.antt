@@ -23,7 +23,7 @@ module _ (size : ℕ) where
   abbrev pub steps_of : ℕ → List ℤ → Steps
   steps_of k cs = record { month = final_month k cs; answered = answered_steps k cs }
 
-  -- with how far it comes: refused counts move nothing, so that is the sum of the answered ones (`sum_is_lem`)
+  -- with how far it comes: refused counts move nothing, so that is the sum of the answered ones (`sum_is`)
   abbrev pub arrival_of : ℕ → List ℤ → Arrival
   arrival_of k cs = record { month = final_month k cs; sum = pos (final_month k cs) -ℤ pos k; answered = answered_steps k cs }
 
