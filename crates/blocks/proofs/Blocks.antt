@@ -1,13 +1,15 @@
 -- A block put together from its parts.
 -- Assumes nothing.
+use Rattle.std.specs.Prelude.{Result, Ok, Err}
+use Rattle.refusal.specs.declared.Refusal.{Refusal}
+use Rattle.std.specs.Result.{result_unwrap_or}
 use mathlib.Core.Path.{◌≡◌, refl, sym, ap, ◌∙◌}
 use mathlib.Core.List.{List, ◌++◌}
 use Prim.Native.Nat.{ℕ, zero, suc, ◌+◌, ◌-◌, ◌*◌, ◌≤◌}
 use native.Mathlib.Omega.{arith}
 use lib.ListN.{length, take, length-append, length-replicate}
 use Rattle.calendar.specs.Heads.{year_head}
-use Rattle.calendar.specs.Answers.{head_values}
-use Rattle.calendar.specs.declared.HeadAnswer.{HeadAnswer}
+use Rattle.calendar.specs.Answers.{zero_head}
 use Rattle.calendar.specs.declared.YearHead.{YearHead}
 use Rattle.calendar.proofs.Round.{head_months}
 use Rattle.year_list.specs.Filled.{row_at}
@@ -24,13 +26,13 @@ use Rattle.blocks.proofs.Sums.{check_zeros}
 pub at_most_13 : (n : ℕ) → months_of n ≤ 13
 at_most_13 n = go (year_head n) refl
   where
-    go : (a : HeadAnswer) → a ≡ year_head n → (head_values a).months ≤ 13
-    go (HeadAnswer.Answered head) q = head_months n head q
-    go (HeadAnswer.Refused e) q = omega arith
+    go : (a : Result YearHead Refusal) → a ≡ year_head n → (result_unwrap_or a zero_head).months ≤ 13
+    go (Ok head) q = head_months n head q
+    go (Err e) q = omega arith
 
 -- one writing after another makes the block
 module _ (n : ℕ) (t : Totals) {a b c d : List ℕ} where
-  pub front : {e : List ℕ} (h : YearHead) → h ≡ head_values (year_head n) → Wrote a b 0 8 (head_bytes n h) → Wrote b c 8 (8 + 16 * h.months) (records n h.months) → Wrote c d (8 + 16 * h.months) (8 + 16 * h.months + 16 * (13 - h.months)) (zeros (16 * (13 - h.months))) → Wrote d e 216 228 (totals_bytes t) → Wrote a e 0 228 (front_of n t)
+  pub front : {e : List ℕ} (h : YearHead) → h ≡ result_unwrap_or (year_head n) zero_head → Wrote a b 0 8 (head_bytes n h) → Wrote b c 8 (8 + 16 * h.months) (records n h.months) → Wrote c d (8 + 16 * h.months) (8 + 16 * h.months + 16 * (13 - h.months)) (zeros (16 * (13 - h.months))) → Wrote d e 216 228 (totals_bytes t) → Wrote a e 0 228 (front_of n t)
   unfolding front_of
   front h q w r z s =
       let k : h.months ≡ months_of n = ap (λ (x : YearHead). x.months) q in
@@ -47,10 +49,10 @@ unfolding records record_bytes
 records_length y zero = refl
 records_length y (suc n) = omega (arith, length-append (records y n) (record_bytes (row_at y n)), records_length y n)
 
-pub before_totals : (y : ℕ) → length (head_bytes y (head_values (year_head y)) ++ records y (months_of y) ++ zeros (16 * (13 - months_of y))) ≡ 216
+pub before_totals : (y : ℕ) → length (head_bytes y (result_unwrap_or (year_head y) zero_head) ++ records y (months_of y) ++ zeros (16 * (13 - months_of y))) ≡ 216
 unfolding head_bytes
 before_totals y =
-    let h = head_bytes y (head_values (year_head y)) in
+    let h = head_bytes y (result_unwrap_or (year_head y) zero_head) in
     let r = records y (months_of y) in
     let z = zeros (16 * (13 - months_of y)) in
     omega
@@ -59,7 +61,7 @@ before_totals y =
 pub front_length : (y : ℕ) (t : Totals) → length (front_of y t) ≡ 228
 unfolding front_of totals_bytes
 front_length y t =
-    omega (arith, length-append (head_bytes y (head_values (year_head y)) ++ records y (months_of y) ++ zeros (16 * (13 - months_of y))) (totals_bytes t), before_totals y)
+    omega (arith, length-append (head_bytes y (result_unwrap_or (year_head y) zero_head) ++ records y (months_of y) ++ zeros (16 * (13 - months_of y))) (totals_bytes t), before_totals y)
 
 pub body_length : (y : ℕ) (t : Totals) → length (body_of y t) ≡ 510
 unfolding body_of

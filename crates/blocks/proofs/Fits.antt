@@ -1,5 +1,8 @@
 -- The numbers of a year and its months fit the bytes that a block has for them.
 -- Assumes nothing.
+use Rattle.std.specs.Prelude.{Result, Ok, Err}
+use Rattle.refusal.specs.declared.Refusal.{Refusal}
+use Rattle.std.specs.Result.{result_unwrap_or}
 use mathlib.Core.Path.{◌≡◌, refl, sym, ap}
 use mathlib.Core.Bool.{Bool, true, false}
 use mathlib.Core.Logic.{⊎_elim}
@@ -17,8 +20,7 @@ use Rattle.units.proofs.Sound.{laws}
 use Rattle.moon.specs.NewMoons.{new_moon_of, length_of}
 use Rattle.calendar.specs.Heads.{year_head}
 use Rattle.calendar.specs.Rows.{row_of}
-use Rattle.calendar.specs.Answers.{head_values, row_values}
-use Rattle.calendar.specs.declared.HeadAnswer.{HeadAnswer}
+use Rattle.calendar.specs.Answers.{zero_head, zero_row}
 use Rattle.calendar.specs.declared.MonthRow.{MonthRow}
 use Rattle.calendar.proofs.Round.{head_leap, head_row, row_length_by}
 use Rattle.calendar.proofs.Steps.{elements_bound}
@@ -27,17 +29,17 @@ use Rattle.year_list.proofs.Fronts.{has_head, month_in_round}
 use Rattle.totals.specs.Totals.{months_of}
 
 -- the leap place is at most 12; what is no year has none
-pub leap_fits : (n : ℕ) → (head_values (year_head n)).leap ≤ 12
+pub leap_fits : (n : ℕ) → (result_unwrap_or (year_head n) zero_head).leap ≤ 12
 leap_fits n = go (year_head n) refl
   where
-    go : (a : HeadAnswer) → a ≡ year_head n → (head_values a).leap ≤ 12
-    go (HeadAnswer.Answered head) q =
+    go : (a : Result YearHead Refusal) → a ≡ year_head n → (result_unwrap_or a zero_head).leap ≤ 12
+    go (Ok head) q =
         rw (head_leap n head q)
         (⊎_elim
         (λ (c : Common rule laws (n - 1)). omega (arith, c.place))
         (λ (c : Long rule laws (n - 1)). c.leap.upto)
         (two_kinds rule laws (n - 1)))
-    go (HeadAnswer.Refused e) q = omega arith
+    go (Err e) q = omega arith
 
 -- a month's number is at most 12
 number_fits : (R : Rule) (y p : ℕ) → month_number R y p ≤ 12
@@ -70,9 +72,9 @@ pub row_fits : (n p : ℕ) → p < months_of n → RowFits (row_at n p)
 unfolding row_of name_of month_of new_moon_of
 row_fits n p h =
     let a = year_head n in
-    let m : ℕ = (head_values a).before + p in
+    let m : ℕ = (result_unwrap_or a zero_head).before + p in
     let inside : m < round_months = month_in_round n a p refl h in
-    let is : row_at n p ≡ row_of m = ap row_values (sym (head_row n (head_values a) (has_head a p h) p h)) in
+    let is : row_at n p ≡ row_of m = ap result_unwrap_or (sym (head_row n (result_unwrap_or a zero_head) (has_head a p h) p h)) zero_row in
     let e = elements_bound m inside in
     rw is
     (record {

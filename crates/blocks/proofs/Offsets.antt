@@ -1,5 +1,6 @@
 -- Each field of a block stands at its offset, whole.
 -- Assumes nothing.
+use Rattle.std.specs.Result.{result_unwrap_or}
 use mathlib.Core.Path.{◌≡◌, refl, sym, ap, ◌∙◌}
 use mathlib.Core.Logic.{⊎_elim}
 use mathlib.Core.List.{List, [], ◌++◌, append_assoc, append-nil}
@@ -10,7 +11,7 @@ use lib.ListN.{length, take, get_or, length-append, length-replicate, get_or-app
 use lib.Seq.{get_or-append-add}
 use Rattle.calendar.specs.Heads.{year_head}
 use Rattle.walking.specs.Fields.{bit_of}
-use Rattle.calendar.specs.Answers.{head_values}
+use Rattle.calendar.specs.Answers.{zero_head}
 use Rattle.calendar.specs.declared.MonthRow.{MonthRow}
 use Rattle.year_list.specs.Filled.{row_at}
 use Rattle.totals.specs.Totals.{months_of}
@@ -36,7 +37,7 @@ pub record RecordAt (block : List ℕ) (at : ℕ) (row : MonthRow) : Type 0 wher
 pub record Laid (n : ℕ) (t : Totals) (block : List ℕ) : Type 0 where
   pub year : value32 block 0 ≡ n
   pub months : get_or block 4 0 ≡ months_of n
-  pub leap : get_or block 5 0 ≡ (head_values (year_head n)).leap
+  pub leap : get_or block 5 0 ≡ (result_unwrap_or (year_head n) zero_head).leap
   pub gap : (get_or block 6 0 ≡ 0) × (get_or block 7 0 ≡ 0)
   pub record_at : (p : ℕ) → p < months_of n → RecordAt block (8 + 16 * p) (row_at n p)
   pub unused : (k : ℕ) → 8 + 16 * months_of n ≤ k → k < 216 → get_or block k 0 ≡ 0
@@ -108,7 +109,7 @@ module _ (n : ℕ) where
 
   module _ (t : Totals) where
     abbrev head : List ℕ
-    head = head_bytes n (head_values (year_head n))
+    head = head_bytes n (result_unwrap_or (year_head n) zero_head)
 
     -- what comes after the records
     abbrev tail : List ℕ
@@ -160,7 +161,7 @@ module _ (n : ℕ) where
     unfolding block_of body_of front_of head_bytes
     month_byte = refl
 
-    leap_byte : get_or (block_of n t) 5 0 ≡ (head_values (year_head n)).leap % 256
+    leap_byte : get_or (block_of n t) 5 0 ≡ (result_unwrap_or (year_head n) zero_head).leap % 256
     unfolding block_of body_of front_of head_bytes
     leap_byte = refl
 

@@ -1,5 +1,6 @@
 -- What the writer puts in a block are bytes.
 -- Assumes nothing.
+use Rattle.std.specs.Result.{result_unwrap_or}
 use mathlib.Core.Path.{◌≡◌}
 use mathlib.Core.Bool.{Bool, true, false}
 use mathlib.Core.Logic.{⊎_elim}
@@ -12,7 +13,7 @@ use lib.Seq.{get_or-append-add}
 use Rattle.reckoning.proofs.Searches.{le_or_lt}
 use Rattle.calendar.specs.Heads.{year_head}
 use Rattle.walking.specs.Fields.{bit_of}
-use Rattle.calendar.specs.Answers.{head_values}
+use Rattle.calendar.specs.Answers.{zero_head}
 use Rattle.calendar.specs.declared.YearHead.{YearHead}
 use Rattle.calendar.specs.declared.MonthRow.{MonthRow}
 use Rattle.year_list.specs.Filled.{row_at}
@@ -90,13 +91,13 @@ totals_are t =
 pub block_bytes : (n : ℕ) (t : Totals) → Bytes (block_of n t)
 unfolding block_of body_of front_of
 block_bytes n t =
-    let h = head_bytes n (head_values (year_head n)) in
+    let h = head_bytes n (result_unwrap_or (year_head n) zero_head) in
     let r = records n (months_of n) in
     let z = zeros (16 * (13 - months_of n)) in
     joined (body_of n t) (le16 (check_of (body_of n t)))
     (joined (h ++ r ++ z ++ totals_bytes t) (zeros 282)
     (joined (h ++ r ++ z) (totals_bytes t)
-    (joined (h ++ r) z (joined h r (head_are n (head_values (year_head n))) (records_are n (months_of n))) (zeros_are (16 * (13 - months_of n))))
+    (joined (h ++ r) z (joined h r (head_are n (result_unwrap_or (year_head n) zero_head)) (records_are n (months_of n))) (zeros_are (16 * (13 - months_of n))))
     (totals_are t))
     (zeros_are 282))
     (two_are (check_of (body_of n t)))

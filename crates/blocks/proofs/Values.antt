@@ -1,5 +1,6 @@
 -- Reading the fields of a block back.
 -- Assumes nothing.
+use Rattle.std.specs.Result.{result_unwrap_or}
 use mathlib.Core.Path.{◌≡◌, sym, ap, ◌∙◌}
 use mathlib.Core.List.{List, [], ◌++◌, append_assoc}
 use Prim.Native.Nat.{ℕ, ◌+◌, ◌-◌, ◌*◌, ◌/◌, ◌%◌, ◌<◌}
@@ -10,7 +11,7 @@ use lib.Dec.{T}
 use lib.ListN.{length, take}
 use lib.Seq.{get_or-append-add, take_at}
 use Rattle.calendar.specs.Heads.{year_head}
-use Rattle.calendar.specs.Answers.{head_values}
+use Rattle.calendar.specs.Answers.{zero_head}
 use Rattle.totals.specs.Totals.{months_of}
 use Rattle.totals.specs.declared.Totals.{Totals}
 use Rattle.blocks.specs.Bytes.{le32, le16, zeros, value32, value16}
@@ -62,7 +63,7 @@ module _ (y : ℕ) (t : Totals) where
   from_totals : (at : ℕ) → value32 (block_of y t) (216 + at) ≡ value32 (totals_bytes t ++ (zeros 282 ++ le16 (check_of (body_of y t)))) at
   unfolding block_of body_of front_of
   from_totals at =
-      let p = head_bytes y (head_values (year_head y)) ++ records y (months_of y) ++ zeros (16 * (13 - months_of y)) in
+      let p = head_bytes y (result_unwrap_or (year_head y) zero_head) ++ records y (months_of y) ++ zeros (16 * (13 - months_of y)) in
       let c = le16 (check_of (body_of y t)) in
       rw (append_assoc (p ++ totals_bytes t) (zeros 282) c, append_assoc p (totals_bytes t) (zeros 282 ++ c))
       (past32 p (totals_bytes t ++ (zeros 282 ++ c)) 216 at (before_totals y))

@@ -1,9 +1,10 @@
 -- A year's block of 512 bytes (02 §6), field after field.
 -- Assumes nothing.
+use Rattle.std.specs.Result.{result_unwrap_or}
 use Rattle.std.specs.Prelude.{List, [], ◌∷◌, ◌++◌, ℕ, zero, suc, ◌-◌, ◌*◌, ◌%◌}
 use Rattle.calendar.specs.Heads.{year_head}
 use Rattle.walking.specs.Fields.{bit_of}
-use Rattle.calendar.specs.Answers.{head_values}
+use Rattle.calendar.specs.Answers.{zero_head}
 use Rattle.calendar.specs.declared.YearHead.{YearHead}
 use Rattle.calendar.specs.declared.MonthRow.{MonthRow}
 use Rattle.year_list.specs.Filled.{row_at}
@@ -33,7 +34,7 @@ totals_bytes t = le32 t.leaps ++ le32 t.news ++ le32 t.fulls
 
 -- the head, thirteen places for records, of which the unused ones are zero, and the totals
 unfoldable pub front_of : ℕ → Totals → List ℕ
-front_of n t = head_bytes n (head_values (year_head n)) ++ records n (months_of n) ++ zeros (16 * (13 - months_of n)) ++ totals_bytes t
+front_of n t = head_bytes n (result_unwrap_or (year_head n) zero_head) ++ records n (months_of n) ++ zeros (16 * (13 - months_of n)) ++ totals_bytes t
 
 -- zeros to byte 509
 unfoldable pub body_of : ℕ → Totals → List ℕ

@@ -2,12 +2,14 @@
 #![tactic(auto)]
 
 ghost use Rattle.std.specs.Prelude.{◌≡◌, ◌+◌, ◌*◌, ◌≤◌, length};
+ghost use Rattle.std.specs.Result.{result_unwrap_or};
 ghost use Rattle.writing.specs.Written.{Wrote};
 ghost use Rattle.calendar.specs.Heads.{year_head};
-ghost use Rattle.calendar.specs.Answers.{head_values};
+ghost use Rattle.calendar.specs.Answers.{zero_head};
 ghost use Rattle.blocks.specs.Block.{head_bytes, record_bytes, records, totals_bytes, block_of, totals_in};
 
-use calendar::{HeadAnswer, MonthRow, YearHead};
+use refusal::Refusal;
+use calendar::{MonthRow, YearHead};
 use totals::Totals;
 
 pub mod bytes;
@@ -67,8 +69,8 @@ fn put_record(out: &mut [u8], at: usize, row: MonthRow)
 }
 
 // The records of all months of the year with that head.
-fn put_records(out: &mut [u8], year: u64, head: HeadAnswer, n: usize)
-    requires { (216 ≤ length out.old) × (head ≡ year_head year) × (n ≡ (head_values head).months) }
+fn put_records(out: &mut [u8], year: u64, head: Result<YearHead, Refusal>, n: usize)
+    requires { (216 ≤ length out.old) × (head ≡ year_head year) × (n ≡ (result_unwrap_or head zero_head).months) }
     ensures { Wrote out.old out.new 8 (8 + 16 * n) (records year n) }
 {
     let mut elements = year_list::first_elements(head);
@@ -90,11 +92,11 @@ fn put_totals(out: &mut [u8], totals: Totals)
 
 // The block of the year with that head, over the whole of a lent part of 512 bytes. Between byte 227 and the check all is zero and adds nothing
 // to it.
-pub fn fill_block(out: &mut [u8], year: u64, head: HeadAnswer, totals: Totals)
+pub fn fill_block(out: &mut [u8], year: u64, head: Result<YearHead, Refusal>, totals: Totals)
     requires { (length out.old ≡ 512) × (head ≡ year_head year) }
     ensures { out.new ≡ block_of year totals }
 {
-    let values = head.values();
+    let values = head.unwrap_or_default();
     let n = values.months as usize;
     put_head(out, year, values);
     put_records(out, year, head, n);

@@ -1,5 +1,6 @@
 -- The rows at the eras' heads, by the treatise's table, and the row at the node.
 -- Assumes nothing.
+use Rattle.std.specs.Prelude.{Ok}
 use mathlib.Core.Path.{◌≡◌, refl, ap, ◌∙◌}
 use Prim.Native.Nat.{ℕ, ◌+◌, ◌*◌, ◌<◌}
 use native.Mathlib.Omega.{arith}
@@ -15,10 +16,9 @@ use Rattle.node.specs.declared.Side.{Side}
 use Rattle.node.proofs.Heads.{era_heads, each_era}
 use Rattle.node.proofs.Steps.{month_0, era_side, at_node_alone}
 use Rattle.calendar.specs.Rows.{row_of, row_for, month_row}
-use Rattle.calendar.specs.declared.RowAnswer.{RowAnswer}
 
 -- an era's head is the first month of its first year
-pub era_row : (e : ℕ) → e < 6 → month_row (e * era_years + 1) 0 ≡ RowAnswer.Answered (row_of (e * era_months))
+pub era_row : (e : ℕ) → e < 6 → month_row (e * era_years + 1) 0 ≡ Ok (row_of (e * era_months))
 unfolding row_for
 era_row e h =
     let y : ℕ = e * era_years in

@@ -1,5 +1,8 @@
 -- Rows handed in as numbers: which are genuine, and that a row handed in as its own numbers is carried as the row is.
 -- Assumes nothing.
+use Rattle.std.specs.Prelude.{Ok, Err}
+use Rattle.refusal.specs.declared.Refusal.{Refusal}
+use Rattle.refusal.specs.Numbers.{answer_number}
 use mathlib.Core.Path.{◌≡◌, refl}
 use mathlib.Core.Bool.{Bool, true, false}
 use mathlib.Core.List.{List}
@@ -8,10 +11,9 @@ use native.Mathlib.Omega.{arith}
 use lib.IntN.{ℤ, pos, nat_abs, ◌+ℤ◌}
 use lib.ListN.{length, get_or}
 use Rattle.reckoning.specs.Search.{pick}
-use Rattle.refusal.specs.declared.Refusal.{Refusal}
 use Rattle.mean_calendar.specs.Months.{month_of}
 use Rattle.units.specs.Xinghe.{round_months}
-use Rattle.walking.specs.Walk.{answered, refused, in_round}
+use Rattle.walking.specs.Walk.{in_round}
 use Rattle.walking.specs.Fields.{named_month}
 use Rattle.walking.proofs.Walks.{row_genuine}
 use Rattle.walking.proofs.Bits.{bit_most}
@@ -19,7 +21,6 @@ use Rattle.walking.proofs.HandedIn as handed
 use Rattle.node.specs.Sides.{side_number}
 use Rattle.node.specs.declared.Side.{Side}
 use Rattle.calendar.specs.Rows.{field_count, row_fields, row_of}
-use Rattle.calendar.specs.Answers.{row_number}
 use Rattle.calendar.specs.Carries.{months, shown, carried, genuine_fields, carried_fields}
 use Rattle.calendar.specs.declared.MonthRow.{MonthRow}
 use Rattle.calendar.proofs.Lawful.{lawful}
@@ -44,10 +45,10 @@ module _ (f : List ℕ) where
   genuine_is_row l g = handed.genuine_is_row months field_count row_fields f l refl g
 
   -- REFUSED UNDER 4 EXACTLY WHERE THEY ARE NOT GENUINE, then under 5 exactly where the count leads outside the round
-  pub carry_numbers : (c : ℤ) → row_number (carried_fields f c) ≡ pick (genuine_fields f) (pick (in_round round_months (pos (named_month f) +ℤ c)) 0 5) 4
+  pub carry_numbers : (c : ℤ) → answer_number (carried_fields f c) ≡ pick (genuine_fields f) (pick (in_round round_months (pos (named_month f) +ℤ c)) 0 5) 4
   carry_numbers c = go (genuine_fields f) (in_round round_months (pos (named_month f) +ℤ c))
     where
-      go : (b i : Bool) → row_number (shown (pick b (pick i (answered (row_of (nat_abs (pos (named_month f) +ℤ c)))) (refused Refusal.Carry)) (refused Refusal.Row))) ≡ pick b (pick i 0 5) 4
+      go : (b i : Bool) → answer_number (shown (pick b (pick i (Ok (row_of (nat_abs (pos (named_month f) +ℤ c)))) (Err Refusal.Carry)) (Err Refusal.Row))) ≡ pick b (pick i 0 5) 4
       go true true = refl
       go true false = refl
       go false i = refl

@@ -1,5 +1,7 @@
 -- The months of the round keep the laws that walks ask, so every theorem of the crate `walking` holds of them.
 -- Assumes nothing.
+use Rattle.std.specs.Prelude.{Result, Ok, Err}
+use Rattle.refusal.specs.declared.Refusal.{Refusal}
 use mathlib.Core.Path.{◌≡◌, ◌∙◌, refl, sym, ap}
 use mathlib.Core.Bool.{true}
 use Prim.Native.Nat.{ℕ}
@@ -9,7 +11,7 @@ use lib.Dec.{eqb, eqb→eq}
 use lib.ListN.{get_or}
 use Rattle.reckoning.specs.Search.{pick}
 use Rattle.reckoning.proofs.Searches.{all_at}
-use Rattle.walking.specs.Walk.{Answer, answered, refused}
+
 use Rattle.walking.specs.Fields.{bit_of, same_fields}
 use Rattle.walking.proofs.Walks.{Lawful}
 use Rattle.walking.proofs.Bits.{bit_eq}
@@ -64,8 +66,8 @@ unfolding row_of month_of
 lawful = record { month_row_lem = λ m h. refl; same_refl = same_refl; same_eq = same_eq }
 
 -- an answer as the code returns it loses nothing
-pub lossless : (a b : Answer MonthRow) → shown a ≡ shown b → a ≡ b
-lossless (answered r) (answered s) e = cc
-lossless (answered r) (refused e) q = cc
-lossless (refused e) (answered s) q = cc
-lossless (refused e) (refused f) q = cc
+pub lossless : (a b : Result MonthRow Refusal) → shown a ≡ shown b → a ≡ b
+lossless (Ok r) (Ok s) e = cc
+lossless (Ok r) (Err e) q = cc
+lossless (Err e) (Ok s) q = cc
+lossless (Err e) (Err f) q = cc

@@ -1,5 +1,6 @@
 -- The leap months of the Xinghe, by the days of its middle terms (02 §4), and what its chapter gives of them.
 -- Assumes nothing.
+use Rattle.std.specs.Prelude.{Ok}
 use mathlib.Core.Path.{◌≡◌, refl}
 use mathlib.Core.Logic.{◌⊎◌, ⊎_elim, ◌↔◌}
 use Prim.Native.Nat.{ℕ, suc, ◌+◌, ◌-◌, ◌*◌, ◌≤◌, ◌<◌}
@@ -25,7 +26,6 @@ use Rattle.units.proofs.Table.{by_chapter_or_more}
 use Rattle.calendar.specs.Heads.{head_of, year_head}
 use Rattle.calendar.specs.Rows.{row_of}
 use Rattle.calendar.specs.declared.YearHead.{YearHead}
-use Rattle.calendar.specs.declared.HeadAnswer.{HeadAnswer}
 use Rattle.calendar.proofs.Round.{head_found, head_leap, row_day, row_end}
 
 -- the solstice's day is that of the year's first middle term
@@ -38,7 +38,7 @@ pub middle_terms : (y k : ℕ) → term_day means (12 * y + k) ≡ (point_of y 2
 unfolding point_of term_day
 middle_terms y k = omega arith
 
-module _ (n : ℕ) (head : YearHead) (e : HeadAnswer.Answered head ≡ year_head n) where
+module _ (n : ℕ) (head : YearHead) (e : Ok head ≡ year_head n) where
   abbrev y : ℕ
   y = n - 1
 

@@ -1,5 +1,6 @@
 -- The months of the round: month to year and place and back, and the treatise's monthly addition.
 -- Assumes nothing.
+use Rattle.std.specs.Prelude.{Ok}
 use mathlib.Core.Path.{◌≡◌, ◌∙◌, sym, ap}
 use Prim.Native.Nat.{ℕ, suc, ◌<◌}
 use Rattle.lunisolar.proofs.Rounds as rounds
@@ -11,16 +12,15 @@ use Rattle.moon.specs.declared.NewMoon.{NewMoon}
 use Rattle.moon.proofs.Addition.{next_new_moon}
 use Rattle.calendar.specs.Rows.{row_of, row_for, month_row}
 use Rattle.calendar.specs.declared.MonthRow.{MonthRow}
-use Rattle.calendar.specs.declared.RowAnswer.{RowAnswer}
 use Rattle.calendar.proofs.Round.{row_found}
 
 -- a month's row is the row at its year and place
-pub month_to_place : (m : ℕ) → m < round_months → month_row (row_of m).year (row_of m).place ≡ RowAnswer.Answered (row_of m)
+pub month_to_place : (m : ℕ) → m < round_months → month_row (row_of m).year (row_of m).place ≡ Ok (row_of m)
 unfolding row_of row_for month_of
 month_to_place m h = ap row_for (rounds.month_to_place xinghe sound m h)
 
 -- a row that is answered for a year and a place has that year and that place
-pub place_to_month : (n p : ℕ) (row : MonthRow) → month_row n p ≡ RowAnswer.Answered row → (row.year ≡ n) × (row.place ≡ p) × (row.lunation < round_months)
+pub place_to_month : (n p : ℕ) (row : MonthRow) → month_row n p ≡ Ok row → (row.year ≡ n) × (row.place ≡ p) × (row.lunation < round_months)
 unfolding row_of month_of
 place_to_month n p row e =
     let f = row_found n p row (sym e) in

@@ -1,5 +1,8 @@
 -- The numbers returned (01, "Numbers returned"), as equations on all inputs, the lowest that applies first; and zero values with each refusal.
 -- Assumes nothing.
+use Rattle.std.specs.Prelude.{Result, Ok, Err}
+use Rattle.refusal.specs.Numbers.{answer_number}
+use Rattle.std.specs.Result.{result_unwrap_or}
 use mathlib.Core.Path.{◌≡◌, refl}
 use mathlib.Core.Bool.{Bool}
 use Prim.Native.Nat.{ℕ, suc, ◌+◌, ◌-◌}
@@ -9,17 +12,13 @@ use Rattle.reckoning.specs.Rule.{month_count}
 use Rattle.refusal.specs.declared.Refusal.{Refusal}
 use Rattle.lunisolar.specs.Calendars.{lunation_at}
 use Rattle.lunisolar.specs.Dates.{month_days}
-use Rattle.lunisolar.specs.Answers.{day_number, date_number}
-use Rattle.lunisolar.specs.declared.LunationAnswer.{LunationAnswer}
 use Rattle.lunisolar.proofs.Numbers as numbers
 use Rattle.units.specs.Xinghe.{xinghe, rule, round_days, is_year}
 use Rattle.units.proofs.Years.{of_year}
 use Rattle.calendar.specs.Heads.{head_for, year_head}
 use Rattle.calendar.specs.Rows.{row_for, month_row}
 use Rattle.calendar.specs.Dates.{day_of_date, date_of_day}
-use Rattle.calendar.specs.Answers.{head_number, head_values, zero_head, row_number, row_values, zero_row}
-use Rattle.calendar.specs.declared.HeadAnswer.{HeadAnswer}
-use Rattle.calendar.specs.declared.RowAnswer.{RowAnswer}
+use Rattle.calendar.specs.Answers.{zero_head, zero_row}
 
 -- the place is one of the year's
 abbrev pub is_place : ℕ → ℕ → Bool
@@ -30,29 +29,29 @@ abbrev pub is_day : ℕ → ℕ → ℕ → Bool
 is_day n p i = between 1 i (suc (month_days xinghe (rule.before (n - 1) + p)))
 
 -- what is made of a year that is sought, and of a place in it
-pub of_place : {B : Type 0} (f : LunationAnswer → B) (n p : ℕ) → f (lunation_at xinghe n p) ≡
-    pick (is_year n) (pick (is_place n p) (f (LunationAnswer.Lunation (rule.before (n - 1) + p))) (f (LunationAnswer.Refused Refusal.Place))) (f (LunationAnswer.Refused Refusal.Year))
+pub of_place : {B : Type 0} (f : Result ℕ Refusal → B) (n p : ℕ) → f (lunation_at xinghe n p) ≡
+    pick (is_year n) (pick (is_place n p) (f (Ok (rule.before (n - 1) + p))) (f (Err Refusal.Place))) (f (Err Refusal.Year))
 of_place f n p = numbers.of_place xinghe f n p
 
-pub head_numbers : (n : ℕ) → head_number (year_head n) ≡ pick (is_year n) 0 1
+pub head_numbers : (n : ℕ) → answer_number (year_head n) ≡ pick (is_year n) 0 1
 unfolding head_for
-head_numbers n = of_year (λ a. head_number (head_for a)) n
+head_numbers n = of_year (λ a. answer_number (head_for a)) n
 
-pub row_numbers : (n p : ℕ) → row_number (month_row n p) ≡ pick (is_year n) (pick (is_place n p) 0 2) 1
+pub row_numbers : (n p : ℕ) → answer_number (month_row n p) ≡ pick (is_year n) (pick (is_place n p) 0 2) 1
 unfolding row_for
-row_numbers n p = of_place (λ a. row_number (row_for a)) n p
+row_numbers n p = of_place (λ a. answer_number (row_for a)) n p
 
-pub day_numbers : (n p i : ℕ) → day_number (day_of_date n p i) ≡ pick (is_year n) (pick (is_place n p) (pick (is_day n p i) 0 3) 2) 1
+pub day_numbers : (n p i : ℕ) → answer_number (day_of_date n p i) ≡ pick (is_year n) (pick (is_place n p) (pick (is_day n p i) 0 3) 2) 1
 day_numbers = numbers.day_numbers xinghe
 
-pub date_numbers : (d : ℕ) → date_number (date_of_day d) ≡ pick (ltb d round_days) 0 7
+pub date_numbers : (d : ℕ) → answer_number (date_of_day d) ≡ pick (ltb d round_days) 0 7
 date_numbers = numbers.date_numbers xinghe
 
 -- where the number is not 0, the values are all zero
-pub head_zero : (a : HeadAnswer) → ¬ (head_number a ≡ 0) → head_values a ≡ zero_head
-head_zero (HeadAnswer.Answered x) h = absurd (h refl)
-head_zero (HeadAnswer.Refused e) h = refl
+pub head_zero : (a : Result YearHead Refusal) → ¬ (answer_number a ≡ 0) → result_unwrap_or a zero_head ≡ zero_head
+head_zero (Ok x) h = absurd (h refl)
+head_zero (Err e) h = refl
 
-pub row_zero : (a : RowAnswer) → ¬ (row_number a ≡ 0) → row_values a ≡ zero_row
-row_zero (RowAnswer.Answered x) h = absurd (h refl)
-row_zero (RowAnswer.Refused e) h = refl
+pub row_zero : (a : Result MonthRow Refusal) → ¬ (answer_number a ≡ 0) → result_unwrap_or a zero_row ≡ zero_row
+row_zero (Ok x) h = absurd (h refl)
+row_zero (Err e) h = refl

@@ -1,8 +1,8 @@
 -- A month's row (01, "Years and months"; 02 §5).
 -- Assumes nothing.
-use Rattle.std.specs.Prelude.{List, [], ◌∷◌, ℕ}
+use Rattle.std.specs.Prelude.{Result, Ok, Err, List, [], ◌∷◌, ℕ}
+use Rattle.refusal.specs.declared.Refusal.{Refusal}
 use Rattle.lunisolar.specs.Calendars.{lunation_at}
-use Rattle.lunisolar.specs.declared.LunationAnswer.{LunationAnswer}
 use Rattle.walking.specs.Fields.{bit_of}
 use Rattle.mean_calendar.specs.Months.{month_of}
 use Rattle.mean_calendar.specs.declared.MeanMonth.{MeanMonth}
@@ -11,7 +11,6 @@ use Rattle.node.specs.Eclipses.{distance}
 use Rattle.node.specs.Sides.{side_of, side_number}
 use Rattle.anomaly.specs.Corrections.{new_moon_at, anomaly_at}
 use Rattle.calendar.specs.declared.MonthRow.{MonthRow}
-use Rattle.calendar.specs.declared.RowAnswer.{RowAnswer}
 
 -- a month, as any calendar has it, with its new moon's distance since the node, side, anomaly day and rest
 abbrev pub row_by : MeanMonth → MonthRow
@@ -37,11 +36,11 @@ unfoldable pub row_of : ℕ → MonthRow
 row_of m = row_by (month_of xinghe m)
 
 -- the row at place p of year n: refused under 1 where the round has no such year, then under 2 where the year has no such place
-unfoldable pub row_for : LunationAnswer → RowAnswer
-row_for (LunationAnswer.Lunation m) = RowAnswer.Answered (row_of m)
-row_for (LunationAnswer.Refused e) = RowAnswer.Refused e
+unfoldable pub row_for : Result ℕ Refusal → Result MonthRow Refusal
+row_for (Ok m) = Ok (row_of m)
+row_for (Err e) = Err e
 
-abbrev pub month_row : ℕ → ℕ → RowAnswer
+abbrev pub month_row : ℕ → ℕ → Result MonthRow Refusal
 month_row n p = row_for (lunation_at xinghe n p)
 
 -- a row's fields as numbers, in their order, and how many they are: so others are handed rows, and hand them in

@@ -2,10 +2,10 @@
 ghost use Rattle.std.specs.Prelude.{◌≡◌, pos, negsuc};
 ghost use Rattle.calendar.specs.Carries.{carried, genuine_fields, carried_fields};
 
+use refusal::Refusal;
 use crate::rows::RowFields;
-use crate::{MonthRow, RowAnswer};
+use crate::MonthRow;
 use units::Xinghe;
-use walking::Landing;
 use walking::fields::same_fields;
 
 // Whether a row is that of the month of the round that it names.
@@ -21,32 +21,32 @@ pub fn is_genuine(fields: &RowFields) -> bool
 }
 
 // The row so many months on, or back, of a row handed in as numbers.
-pub fn carry_fields(fields: &RowFields, count: i64) -> RowAnswer
+pub fn carry_fields(fields: &RowFields, count: i64) -> Result<MonthRow, Refusal>
     ensures { result ≡ carried_fields fields.now count }
 {
     let genuine = is_genuine(fields);
     match walking::land(Xinghe::MONTHS, genuine, fields[0], count) {
-        Landing::Month(m) => RowAnswer::Answered(crate::rows::row_of(m)),
-        Landing::Refused(e) => RowAnswer::Refused(e),
+        Ok(m) => Ok(crate::rows::row_of(m)),
+        Err(e) => Err(e),
     }
 }
 
 impl MonthRow {
     // The row so many months on, or back.
-    pub fn carry(self, count: i64) -> RowAnswer
+    pub fn carry(self, count: i64) -> Result<MonthRow, Refusal>
         ensures { result ≡ carried self count }
     {
         let fields = self.fields();
         carry_fields(&fields, count)
     }
 
-    pub fn next(self) -> RowAnswer
+    pub fn next(self) -> Result<MonthRow, Refusal>
         ensures { result ≡ carried self (pos 1) }
     {
         self.carry(1)
     }
 
-    pub fn back(self) -> RowAnswer
+    pub fn back(self) -> Result<MonthRow, Refusal>
         ensures { result ≡ carried self (negsuc 0) }
     {
         self.carry(-1)

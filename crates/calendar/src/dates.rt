@@ -2,26 +2,25 @@
 ghost use Rattle.std.specs.Prelude.{◌≡◌};
 ghost use Rattle.calendar.specs.Dates.{day_of_date, date_of_day};
 
-use lunisolar::dates::{DateAnswer, DayAnswer};
 use refusal::Refusal;
 use units::Xinghe;
 
-pub fn day_of_date(year: u64, place: u64, day: u64) -> DayAnswer
+pub fn day_of_date(year: u64, place: u64, day: u64) -> Result<Day, Refusal>
     ensures { result ≡ day_of_date year place day }
 {
     let month = Xinghe::lunation_at(year, place);
     lunisolar::dates::day_for(Xinghe::constants(), month, day)
 }
 
-pub fn date_of_day(number: u64) -> DateAnswer
+pub fn date_of_day(number: u64) -> Result<Date, Refusal>
     ensures { result ≡ date_of_day number }
 {
     if Xinghe::DAYS <= number {
-        return DateAnswer::Refused(Refusal::Day);
+        return Err(Refusal::Day);
     }
     let m = Xinghe::month_of_day(number);
     let y = Xinghe::year_of(m);
     let before = units::chapter::months_before(y);
     let date = lunisolar::dates::date_in(Xinghe::constants(), y, before, m, number);
-    DateAnswer::Answered(date)
+    Ok(date)
 }

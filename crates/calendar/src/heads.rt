@@ -2,8 +2,8 @@
 ghost use Rattle.std.specs.Prelude.{◌≡◌, ◌<◌};
 ghost use Rattle.calendar.specs.Heads.{head_of, year_head};
 
-use crate::{HeadAnswer, YearHead};
-use lunisolar::YearAnswer;
+use refusal::Refusal;
+use crate::YearHead;
 use units::Xinghe;
 
 fn head_of(y: u64) -> YearHead
@@ -23,11 +23,11 @@ fn head_of(y: u64) -> YearHead
     }
 }
 
-pub fn year_head(year: u64) -> HeadAnswer
+pub fn year_head(year: u64) -> Result<YearHead, Refusal>
     ensures { result ≡ year_head year }
 {
     match Xinghe::year_at(year) {
-        YearAnswer::Past(y) => HeadAnswer::Answered(head_of(y)),
-        YearAnswer::Refused(e) => HeadAnswer::Refused(e),
+        Ok(y) => Ok(head_of(y)),
+        Err(e) => Err(e),
     }
 }

@@ -24,12 +24,6 @@ pub struct YearHead {
     pub solstice: Solstice,
 }
 
-#[derive(Clone, Copy)]
-pub enum HeadAnswer {
-    Answered(YearHead),
-    Refused(Refusal),
-}
-
 // A month: its number in the round (積月), its year and place, its month number (11 at place 0), whether it is the leap month (閏月), its
 // first day with the small remainder (小餘) of its new moon, and its length; and of that new moon the degrees since the last node (交) and
 // their remainder (the residue), the side of the road (表裏), and the day of the anomaly (入曆日) and its rest.
@@ -50,8 +44,3 @@ pub struct MonthRow {
     pub rest: DayRemainder,
 }
 
-#[derive(Clone, Copy)]
-pub enum RowAnswer {
-    Answered(MonthRow),
-    Refused(Refusal),
-}

@@ -6,12 +6,11 @@ ghost use Rattle.units.specs.Xinghe.{xinghe, rule, round_months};
 ghost use Rattle.calendar.specs.Heads.{year_head};
 ghost use Rattle.calendar.specs.Elements.{elements_of};
 ghost use Rattle.calendar.specs.Rows.{row_fields, row_of, month_row};
-ghost use Rattle.calendar.specs.declared.HeadAnswer.{HeadAnswer};
-ghost use Rattle.calendar.specs.declared.RowAnswer.{RowAnswer};
 
+use refusal::Refusal;
+use refusal::Numbered;
 use crate::elements::{Elements, elements_of};
-use crate::{MonthRow, RowAnswer, YearHead};
-use lunisolar::LunationAnswer;
+use crate::{MonthRow, YearHead};
 use lunisolar::naming::MonthName;
 use mean_calendar::parts::{DayParts, DayShare};
 use units::Xinghe;
@@ -113,23 +112,23 @@ pub fn row_of(lunation: u64) -> MonthRow
     row_from(y, before, lunation)
 }
 
-pub fn month_row(year: u64, place: u64) -> RowAnswer
+pub fn month_row(year: u64, place: u64) -> Result<MonthRow, Refusal>
     ensures { result ≡ month_row year place }
 {
     match Xinghe::lunation_at(year, place) {
-        LunationAnswer::Lunation(m) => {
+        Ok(m) => {
             // the month less its place is the months before its year
-            RowAnswer::Answered(row_from(year - 1, m - place, m))
+            Ok(row_from(year - 1, m - place, m))
         }
-        LunationAnswer::Refused(e) => RowAnswer::Refused(e),
+        Err(e) => Err(e),
     }
 }
 
 // The row at a place of a year whose head and whose month's new moon are at hand: one head serves all rows of its year, and the new moon's elements
 // go on from month to month.
 pub fn row_with(year: u64, head: YearHead, place: u64, elements: Elements) -> MonthRow
-    requires { (HeadAnswer.Answered head ≡ year_head year) × (place < head.months) × (elements ≡ elements_of (head.before + place)) }
-    ensures { RowAnswer.Answered result ≡ month_row year place }
+    requires { (Ok head ≡ year_head year) × (place < head.months) × (elements ≡ elements_of (head.before + place)) }
+    ensures { Ok result ≡ month_row year place }
 {
     let name = lunisolar::naming::name_under(Xinghe::constants(), year - 1, head.leap, place);
     row_named(name, head.before + place, elements)
@@ -137,8 +136,8 @@ pub fn row_with(year: u64, head: YearHead, place: u64, elements: Elements) -> Mo
 
 // The row at a place of a year whose head is at hand.
 pub fn row_under(year: u64, head: YearHead, place: u64) -> MonthRow
-    requires { (HeadAnswer.Answered head ≡ year_head year) × (place < head.months) }
-    ensures { RowAnswer.Answered result ≡ month_row year place }
+    requires { (Ok head ≡ year_head year) × (place < head.months) }
+    ensures { Ok result ≡ month_row year place }
 {
     row_with(year, head, place, elements_of(head.before + place))
 }

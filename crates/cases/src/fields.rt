@@ -1,4 +1,5 @@
 // Answers on a line: their values in the order in which every line of their question has them.
+use refusal::Numbered;
 use anomaly::{Anomaly, Corrected};
 use calendar::{MonthRow, YearHead};
 use lines::Line;

@@ -3,13 +3,13 @@ ghost use Rattle.std.specs.Prelude.{◌<◌};
 ghost use Rattle.linde.specs.Linde.{lunations};
 ghost use Rattle.mean_calendar.specs.Months.{field_count};
 
+use refusal::Refusal;
 use crate::{fields, mean_questions, questions};
 use linde::Linde;
 use lines::Line;
 use lines::digest::Digest;
 use mean_calendar::carries::{FIELDS, MonthFields};
-use mean_calendar::{MeanHead, MeanHeadAnswer, MeanMonth, MeanMonthAnswer};
-use mean_walk::MeanWalkAnswer;
+use mean_calendar::{MeanHead, MeanMonth};
 use mean_year::PLACES;
 use std::io;
 
@@ -35,22 +35,22 @@ fn head_numbers(head: MeanHead) -> [u64; 5] {
 pub fn ask_head(rt: &impl Print, year: u64) -> io::Result<()> {
     let line = asked(b"head").number(year);
     match Linde::year_head(year) {
-        MeanHeadAnswer::Answered(head) => {
+        Ok(head) => {
             let numbers = head_numbers(head);
             fields::with_numbers(line, &numbers).write(rt)
         }
-        MeanHeadAnswer::Refused(refusal) => line.refuse(rt, refusal),
+        Err(refusal) => line.refuse(rt, refusal),
     }
 }
 
 pub fn ask_row(rt: &impl Print, year: u64, place: u64) -> io::Result<()> {
     let line = asked_of_month(b"row", year, place);
     match Linde::month_row(year, place) {
-        MeanMonthAnswer::Answered(month) => {
+        Ok(month) => {
             let numbers = month.fields();
             mean_questions::write_row(rt, line, &numbers, month.day)
         }
-        MeanMonthAnswer::Refused(refusal) => line.refuse(rt, refusal),
+        Err(refusal) => line.refuse(rt, refusal),
     }
 }
 
@@ -76,13 +76,13 @@ fn month_of(lunation: u64) -> MeanMonth
     mean_calendar::months::month_of(Linde::constants(), lunation)
 }
 
-fn write_carried(rt: &impl Print, line: Line, answer: MeanMonthAnswer) -> io::Result<()> {
+fn write_carried(rt: &impl Print, line: Line, answer: Result<MeanMonth, Refusal>) -> io::Result<()> {
     match answer {
-        MeanMonthAnswer::Answered(month) => {
+        Ok(month) => {
             let numbers = month.fields();
             mean_questions::write_carried(rt, line, &numbers)
         }
-        MeanMonthAnswer::Refused(refusal) => line.refuse(rt, refusal),
+        Err(refusal) => line.refuse(rt, refusal),
     }
 }
 
@@ -136,14 +136,14 @@ pub fn ask_forged_fields(rt: &impl Print, lunation: u64) -> io::Result<()>
     Ok(())
 }
 
-fn write_walk(rt: &impl Print, line: Line, answer: MeanWalkAnswer) -> io::Result<()> {
+fn write_walk(rt: &impl Print, line: Line, answer: Result<MeanWalk, Refusal>) -> io::Result<()> {
     match answer {
-        MeanWalkAnswer::Answered(end) => {
+        Ok(end) => {
             let month = end.month;
             let numbers = month.fields();
             mean_questions::write_walk(rt, line, &numbers, end.sum, end.answered)
         }
-        MeanWalkAnswer::Refused(refusal) => line.refuse(rt, refusal),
+        Err(refusal) => line.refuse(rt, refusal),
     }
 }
 
@@ -184,11 +184,11 @@ pub fn ask_list(rt: &impl Print, year: u64) -> io::Result<()> {
     let months = list.months;
     let answer = list.head;
     match answer {
-        MeanHeadAnswer::Answered(head) => {
+        Ok(head) => {
             let numbers = head_numbers(head);
             let digest = mean_questions::fed_numbers(Digest::new(), &numbers);
             line.number(fed_months(digest, months).value()).write(rt)
         }
-        MeanHeadAnswer::Refused(refusal) => line.refuse(rt, refusal),
+        Err(refusal) => line.refuse(rt, refusal),
     }
 }

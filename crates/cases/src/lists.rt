@@ -5,17 +5,16 @@ use crate::fields;
 use calendar::MonthRow;
 use lines::Line;
 use std::io;
-use year_list::FillAnswer;
 
 // A row that no year has, by which a row that was not written is known.
 fn marked(i: u64) -> MonthRow {
-    let mut row = MonthRow::zero();
+    let mut row = MonthRow::default();
     row.lunation = std::num::wrapping_add_u64(1000, i);
     row
 }
 
 fn marked_rows() -> [MonthRow; 13] {
-    let mut rows = [MonthRow::zero(); 13];
+    let mut rows = [MonthRow::default(); 13];
     let mut i: usize = 0;
     while i < 13 {
         rows[i] = marked(i as u64);
@@ -42,8 +41,8 @@ fn ask_fill(rt: &impl Print, year: u64, have: usize) -> io::Result<()>
 {
     let line = Line::new().text(b"fill").number(year).number(have as u64);
     match year_list::answer_for(calendar::heads::year_head(year), have) {
-        FillAnswer::Filled(count) => line.number(count).write(rt)?,
-        FillAnswer::Refused(refusal) => line.refuse(rt, refusal)?,
+        Ok(count) => line.number(count).write(rt)?,
+        Err(refusal) => line.refuse(rt, refusal)?,
     }
     write_lent(rt, year_list::fill_front(marked_rows(), have, year), have)
 }

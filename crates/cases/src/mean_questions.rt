@@ -1,9 +1,8 @@
 // What the Zhengguang and the Linde calendar are asked alike: how their lines begin, and the answers of which both have one kind.
+use refusal::Refusal;
 use crate::fields;
 use lines::Line;
 use lines::digest::Digest;
-use lunisolar::dates::DayAnswer;
-use mean_calendar::MeanPointAnswer;
 use std::io;
 
 // A line begins with its calendar's name, since the questions have the same names in all calendars.
@@ -40,23 +39,23 @@ pub fn write_walk(
         .write(rt)
 }
 
-pub fn write_point(rt: &impl Print, line: Line, answer: MeanPointAnswer) -> io::Result<()> {
+pub fn write_point(rt: &impl Print, line: Line, answer: Result<MeanPoint, Refusal>) -> io::Result<()> {
     match answer {
-        MeanPointAnswer::Answered(point) => {
+        Ok(point) => {
             let remainder = point.remainder;
             line.number(point.day)
                 .number(remainder.parts)
                 .number(point.rest)
                 .write(rt)
         }
-        MeanPointAnswer::Refused(refusal) => line.refuse(rt, refusal),
+        Err(refusal) => line.refuse(rt, refusal),
     }
 }
 
-pub fn write_day(rt: &impl Print, line: Line, answer: DayAnswer) -> io::Result<()> {
+pub fn write_day(rt: &impl Print, line: Line, answer: Result<Day, Refusal>) -> io::Result<()> {
     match answer {
-        DayAnswer::Answered(day) => line.number(day.number).number(day.sexagenary).write(rt),
-        DayAnswer::Refused(refusal) => line.refuse(rt, refusal),
+        Ok(day) => line.number(day.number).number(day.sexagenary).write(rt),
+        Err(refusal) => line.refuse(rt, refusal),
     }
 }
 

@@ -1,12 +1,13 @@
 // Mending: a buffer that holds a volume of which blocks and bytes were altered, and a list for the indices of the damaged blocks.
 ghost use Rattle.std.specs.Prelude.{◌≡◌, ◌+◌, ◌*◌, ◌<◌, ◌≤◌, length};
 
+use refusal::Refusal;
 use crate::volume_edges;
 use crate::volume_edges::{BUFFER, WHOLE};
 use blocks::BLOCK;
 use lines::Line;
 use lines::digest::Digest;
-use mending::{MOST_BLOCKS, MendAnswer};
+use mending::MOST_BLOCKS;
 use std::io;
 
 // Every number of the list before it is lent.
@@ -43,7 +44,7 @@ fn mend_part(
     begin: usize,
     end: usize,
     list: &mut [u64; MOST_BLOCKS],
-) -> MendAnswer
+) -> Result<u64, Refusal>
     requires { (begin ≤ end) × (end ≤ length buffer.old) }
     ensures { length buffer.new ≡ length buffer.old }
 {
@@ -79,7 +80,7 @@ fn ask_mend(
     let begin = BLOCK * start;
     let answer = mend_part(&mut buffer, begin, begin + length, &mut list);
     match answer {
-        MendAnswer::Mended(n) => {
+        Ok(n) => {
             line.number(n)
                 .number(list[0])
                 .number(list[1])
@@ -88,7 +89,7 @@ fn ask_mend(
                 .number(Digest::new().feed_bytes(&buffer).value())
                 .write(rt)
         }
-        MendAnswer::Refused(e) => line.refuse(rt, e),
+        Err(e) => line.refuse(rt, e),
     }
 }
 

@@ -1,6 +1,7 @@
 // The planets: conjunctions of the years at the edges, the stages, and what is refused.
+use refusal::Numbered;
 use lines::Line;
-use planets::{Conjunction, ConjunctionsAnswer, Stage, StageCount, TwoConjunctions};
+use planets::{Conjunction, Stage, TwoConjunctions};
 use std::io;
 
 fn with_conjunction(line: Line, conjunction: Conjunction) -> Line {
@@ -28,8 +29,8 @@ fn ask_conjunctions(rt: &impl Print, year: u64, planet: u64) -> io::Result<()> {
         .number(year)
         .number(planet);
     match planets::conjunctions(year, planet) {
-        ConjunctionsAnswer::Answered(two) => with_conjunctions(line, two).write(rt),
-        ConjunctionsAnswer::Refused(refusal) => line.refuse(rt, refusal),
+        Ok(two) => with_conjunctions(line, two).write(rt),
+        Err(refusal) => line.refuse(rt, refusal),
     }
 }
 
@@ -74,11 +75,11 @@ fn ask_stages(rt: &impl Print, planet: u64) -> io::Result<()> {
     let stages = answer.stages;
     let counted = answer.count;
     match counted {
-        StageCount::Answered(count) => {
+        Ok(count) => {
             line.number(count).write(rt)?;
             write_stages(rt, planet, stages)
         }
-        StageCount::Refused(refusal) => line.refuse(rt, refusal),
+        Err(refusal) => line.refuse(rt, refusal),
     }
 }
 

@@ -3,12 +3,11 @@ ghost use Rattle.std.specs.Prelude.{◌<◌};
 ghost use Rattle.units.specs.Xinghe.{round_months};
 ghost use Rattle.calendar.specs.Rows.{field_count};
 
+use refusal::Refusal;
 use crate::fields;
 use calendar::rows::FIELDS;
-use calendar::{HeadAnswer, MonthRow, RowAnswer};
-use ephemeris::{CorrectionsAnswer, NodesAnswer, PhasesAnswer, PointAnswer};
+use calendar::MonthRow;
 use lines::Line;
-use lunisolar::dates::{DateAnswer, DayAnswer};
 use std::io;
 use units::remainder::DayRemainder;
 
@@ -19,52 +18,52 @@ fn asked_of_month(question: &[u8], year: u64, place: u64) -> Line {
 pub fn ask_head(rt: &impl Print, year: u64) -> io::Result<()> {
     let line = Line::new().text(b"head").number(year);
     match calendar::heads::year_head(year) {
-        HeadAnswer::Answered(head) => fields::with_head(line, head).write(rt),
-        HeadAnswer::Refused(refusal) => line.refuse(rt, refusal),
+        Ok(head) => fields::with_head(line, head).write(rt),
+        Err(refusal) => line.refuse(rt, refusal),
     }
 }
 
 pub fn ask_row(rt: &impl Print, year: u64, place: u64) -> io::Result<()> {
     let line = asked_of_month(b"row", year, place);
     match calendar::rows::month_row(year, place) {
-        RowAnswer::Answered(row) => fields::with_row(line, row)
+        Ok(row) => fields::with_row(line, row)
             .number(lunisolar::sixty::sexagenary(row.day))
             .write(rt),
-        RowAnswer::Refused(refusal) => line.refuse(rt, refusal),
+        Err(refusal) => line.refuse(rt, refusal),
     }
 }
 
 pub fn ask_phases(rt: &impl Print, year: u64, place: u64) -> io::Result<()> {
     let line = asked_of_month(b"phases", year, place);
     match ephemeris::phases(year, place) {
-        PhasesAnswer::Answered(phases) => fields::with_phases(line, phases).write(rt),
-        PhasesAnswer::Refused(refusal) => line.refuse(rt, refusal),
+        Ok(phases) => fields::with_phases(line, phases).write(rt),
+        Err(refusal) => line.refuse(rt, refusal),
     }
 }
 
 pub fn ask_nodes(rt: &impl Print, year: u64, place: u64) -> io::Result<()> {
     let line = asked_of_month(b"nodes", year, place);
     match ephemeris::nodes(year, place) {
-        NodesAnswer::Answered(nodes) => {
+        Ok(nodes) => {
             let new = nodes.new;
             let side = nodes.side;
             let full = nodes.full;
             fields::with_full_moon_node(fields::with_new_moon_node(line, new, side), full).write(rt)
         }
-        NodesAnswer::Refused(refusal) => line.refuse(rt, refusal),
+        Err(refusal) => line.refuse(rt, refusal),
     }
 }
 
 pub fn ask_corrections(rt: &impl Print, year: u64, place: u64) -> io::Result<()> {
     let line = asked_of_month(b"corrections", year, place);
     match ephemeris::corrections(year, place) {
-        CorrectionsAnswer::Answered(corrections) => {
+        Ok(corrections) => {
             let new = corrections.new;
             let full = corrections.full;
             let with_new = fields::with_new_moon_correction(line, new);
             fields::with_full_moon_correction(with_new, full).write(rt)
         }
-        CorrectionsAnswer::Refused(refusal) => line.refuse(rt, refusal),
+        Err(refusal) => line.refuse(rt, refusal),
     }
 }
 
@@ -75,28 +74,28 @@ pub fn ask_cut(rt: &impl Print, year: u64, cut: u64, index: u64) -> io::Result<(
         .number(cut)
         .number(index);
     match ephemeris::cut_point(year, cut, index) {
-        PointAnswer::Answered(point) => fields::with_point(line, point).write(rt),
-        PointAnswer::Refused(refusal) => line.refuse(rt, refusal),
+        Ok(point) => fields::with_point(line, point).write(rt),
+        Err(refusal) => line.refuse(rt, refusal),
     }
 }
 
 pub fn ask_day(rt: &impl Print, year: u64, place: u64, day: u64) -> io::Result<()> {
     let line = asked_of_month(b"day", year, place).number(day);
     match calendar::dates::day_of_date(year, place, day) {
-        DayAnswer::Answered(found) => fields::with_day(line, found).write(rt),
-        DayAnswer::Refused(refusal) => line.refuse(rt, refusal),
+        Ok(found) => fields::with_day(line, found).write(rt),
+        Err(refusal) => line.refuse(rt, refusal),
     }
 }
 
 // Every calendar answers a date alike.
-pub fn write_date(rt: &impl Print, line: Line, answer: DateAnswer) -> io::Result<()> {
+pub fn write_date(rt: &impl Print, line: Line, answer: Result<Date, Refusal>) -> io::Result<()> {
     match answer {
-        DateAnswer::Answered(date) => line
+        Ok(date) => line
             .number(date.year)
             .number(date.place)
             .number(date.day)
             .write(rt),
-        DateAnswer::Refused(refusal) => line.refuse(rt, refusal),
+        Err(refusal) => line.refuse(rt, refusal),
     }
 }
 
@@ -105,10 +104,10 @@ pub fn ask_date(rt: &impl Print, number: u64) -> io::Result<()> {
     write_date(rt, line, calendar::dates::date_of_day(number))
 }
 
-fn write_carried(rt: &impl Print, line: Line, answer: RowAnswer) -> io::Result<()> {
+fn write_carried(rt: &impl Print, line: Line, answer: Result<MonthRow, Refusal>) -> io::Result<()> {
     match answer {
-        RowAnswer::Answered(row) => fields::with_row(line.text(b" ->"), row).write(rt),
-        RowAnswer::Refused(refusal) => line.refuse(rt, refusal),
+        Ok(row) => fields::with_row(line.text(b" ->"), row).write(rt),
+        Err(refusal) => line.refuse(rt, refusal),
     }
 }
 
@@ -134,10 +133,10 @@ pub fn ask_back(rt: &impl Print, lunation: u64) -> io::Result<()>
     write_carried(rt, line, calendar::rows::row_of(lunation).back())
 }
 
-fn write_forged(rt: &impl Print, line: Line, answer: RowAnswer) -> io::Result<()> {
+fn write_forged(rt: &impl Print, line: Line, answer: Result<MonthRow, Refusal>) -> io::Result<()> {
     match answer {
-        RowAnswer::Answered(_) => line.text(b" taken").write(rt),
-        RowAnswer::Refused(refusal) => line.refuse(rt, refusal),
+        Ok(_) => line.text(b" taken").write(rt),
+        Err(refusal) => line.refuse(rt, refusal),
     }
 }
 

@@ -4,7 +4,6 @@ ghost use Rattle.std.specs.Prelude.{◌≤◌};
 use crate::volume_edges;
 use crate::volume_edges::WHOLE;
 use lines::Line;
-use reigns::MarkedAnswer;
 use std::io;
 
 // Of the first so many bytes, after one byte was altered.
@@ -31,8 +30,8 @@ fn ask_marked(
         .number(to);
     let buffer = volume_edges::altered(first, last, at, byte);
     match reigns::marked(&buffer[..length], from, to) {
-        MarkedAnswer::Moons(news, fulls) => line.number(news).number(fulls).write(rt),
-        MarkedAnswer::Refused(e) => line.refuse(rt, e),
+        Ok((news, fulls)) => line.number(news).number(fulls).write(rt),
+        Err(e) => line.refuse(rt, e),
     }
 }
 

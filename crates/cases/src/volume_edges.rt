@@ -1,11 +1,10 @@
 // Volumes: what is written to a lent buffer, then what is read from one.
 ghost use Rattle.std.specs.Prelude.{◌≡◌, ◌≤◌, length};
 
+use refusal::Refusal;
 use lines::Line;
 use lines::digest::Digest;
 use std::io;
-use volumes::reader::ReadAnswer;
-use volumes::writer::WriteAnswer;
 
 // The bytes of the buffer, room for four years.
 pub const BUFFER: usize = 2048;
@@ -16,7 +15,7 @@ pub const WHOLE: usize = BUFFER;
 // What the writer answered, and the buffer afterwards.
 #[derive(Clone, Copy)]
 struct Writing {
-    answer: WriteAnswer,
+    answer: Result<u64, Refusal>,
     buffer: [u8; BUFFER],
 }
 
@@ -50,8 +49,8 @@ fn ask_write(rt: &impl Print, first: u64, last: u64, room: usize) -> io::Result<
     let digest = Digest::new().feed_bytes(&buffer);
     let answer = writing.answer;
     match answer {
-        WriteAnswer::Written(n) => line.number(n).number(digest.value()).write(rt),
-        WriteAnswer::Refused(e) => line.refuse(rt, e),
+        Ok(n) => line.number(n).number(digest.value()).write(rt),
+        Err(e) => line.refuse(rt, e),
     }
 }
 
@@ -87,8 +86,8 @@ fn ask_read(
         .number(length as u64);
     let buffer = altered(first, last, at, byte);
     match volumes::reader::read(&buffer[..length]) {
-        ReadAnswer::Years(first, last) => line.number(first).number(last).write(rt),
-        ReadAnswer::Refused(e) => line.refuse(rt, e),
+        Ok((first, last)) => line.number(first).number(last).write(rt),
+        Err(e) => line.refuse(rt, e),
     }
 }
 

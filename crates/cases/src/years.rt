@@ -18,7 +18,7 @@ fn ask_month(rt: &impl Print, year: u64, place: u64) -> io::Result<()> {
 }
 
 fn ask_months(rt: &impl Print, year: u64) -> io::Result<()> {
-    let months = calendar::heads::year_head(year).values().months;
+    let months = calendar::heads::year_head(year).unwrap_or_default().months;
     let mut place = 0;
     while place < months {
         ask_month(rt, year, place)?;

@@ -3,17 +3,14 @@ ghost use Rattle.std.specs.Prelude.{◌<◌};
 ghost use Rattle.zhengguang.specs.Zhengguang.{round_months};
 ghost use Rattle.zhengguang.specs.Rows.{field_count};
 
+use refusal::Refusal;
 use crate::{fields, mean_questions, questions};
 use lines::Line;
 use lines::digest::Digest;
 use mean_year::PLACES;
 use std::io;
 use zhengguang::rows::{FIELDS, RowFields};
-use zhengguang::walks::ZhengguangWalkAnswer;
-use zhengguang::{
-    MonthNodesAnswer, NodeDistance, Zhengguang, ZhengguangHead, ZhengguangHeadAnswer,
-    ZhengguangRow, ZhengguangRowAnswer,
-};
+use zhengguang::{NodeDistance, Zhengguang, ZhengguangHead, ZhengguangRow};
 
 fn asked(question: &[u8]) -> Line {
     mean_questions::asked(b"zhengguang", question)
@@ -40,23 +37,23 @@ fn head_numbers(head: ZhengguangHead) -> [u64; 6] {
 pub fn ask_head(rt: &impl Print, year: u64) -> io::Result<()> {
     let line = asked(b"head").number(year);
     match zhengguang::heads::year_head(year) {
-        ZhengguangHeadAnswer::Answered(head) => {
+        Ok(head) => {
             let numbers = head_numbers(head);
             fields::with_numbers(line, &numbers).write(rt)
         }
-        ZhengguangHeadAnswer::Refused(refusal) => line.refuse(rt, refusal),
+        Err(refusal) => line.refuse(rt, refusal),
     }
 }
 
 pub fn ask_row(rt: &impl Print, year: u64, place: u64) -> io::Result<()> {
     let line = asked_of_month(b"row", year, place);
     match zhengguang::rows::month_row(year, place) {
-        ZhengguangRowAnswer::Answered(row) => {
+        Ok(row) => {
             let mean = row.mean;
             let numbers = row.fields();
             mean_questions::write_row(rt, line, &numbers, mean.day)
         }
-        ZhengguangRowAnswer::Refused(refusal) => line.refuse(rt, refusal),
+        Err(refusal) => line.refuse(rt, refusal),
     }
 }
 
@@ -70,12 +67,12 @@ fn with_distance(line: Line, distance: NodeDistance) -> Line {
 pub fn ask_nodes(rt: &impl Print, year: u64, place: u64) -> io::Result<()> {
     let line = asked_of_month(b"nodes", year, place);
     match zhengguang::nodes::nodes(year, place) {
-        MonthNodesAnswer::Answered(nodes) => {
+        Ok(nodes) => {
             let new = nodes.new;
             let full = nodes.full;
             with_distance(with_distance(line, new), full).write(rt)
         }
-        MonthNodesAnswer::Refused(refusal) => line.refuse(rt, refusal),
+        Err(refusal) => line.refuse(rt, refusal),
     }
 }
 
@@ -94,13 +91,13 @@ pub fn ask_date(rt: &impl Print, number: u64) -> io::Result<()> {
     questions::write_date(rt, line, Zhengguang::date_of_day(number))
 }
 
-fn write_carried(rt: &impl Print, line: Line, answer: ZhengguangRowAnswer) -> io::Result<()> {
+fn write_carried(rt: &impl Print, line: Line, answer: Result<ZhengguangRow, Refusal>) -> io::Result<()> {
     match answer {
-        ZhengguangRowAnswer::Answered(row) => {
+        Ok(row) => {
             let numbers = row.fields();
             mean_questions::write_carried(rt, line, &numbers)
         }
-        ZhengguangRowAnswer::Refused(refusal) => line.refuse(rt, refusal),
+        Err(refusal) => line.refuse(rt, refusal),
     }
 }
 
@@ -154,14 +151,14 @@ pub fn ask_forged_fields(rt: &impl Print, lunation: u64) -> io::Result<()>
     Ok(())
 }
 
-fn write_walk(rt: &impl Print, line: Line, answer: ZhengguangWalkAnswer) -> io::Result<()> {
+fn write_walk(rt: &impl Print, line: Line, answer: Result<ZhengguangWalk, Refusal>) -> io::Result<()> {
     match answer {
-        ZhengguangWalkAnswer::Answered(end) => {
+        Ok(end) => {
             let row = end.row;
             let numbers = row.fields();
             mean_questions::write_walk(rt, line, &numbers, end.sum, end.answered)
         }
-        ZhengguangWalkAnswer::Refused(refusal) => line.refuse(rt, refusal),
+        Err(refusal) => line.refuse(rt, refusal),
     }
 }
 
@@ -203,11 +200,11 @@ pub fn ask_list(rt: &impl Print, year: u64) -> io::Result<()> {
     let rows = list.rows;
     let answer = list.head;
     match answer {
-        ZhengguangHeadAnswer::Answered(head) => {
+        Ok(head) => {
             let numbers = head_numbers(head);
             let digest = mean_questions::fed_numbers(Digest::new(), &numbers);
             line.number(fed_rows(digest, rows).value()).write(rt)
         }
-        ZhengguangHeadAnswer::Refused(refusal) => line.refuse(rt, refusal),
+        Err(refusal) => line.refuse(rt, refusal),
     }
 }

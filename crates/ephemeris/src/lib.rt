@@ -6,7 +6,6 @@ ghost use Rattle.std.specs.Prelude.{◌≡◌, ◌<◌};
 ghost use Rattle.ephemeris.specs.Jobs.{phases_at, nodes_at, corrections_at, point_in, cut_point};
 
 use anomaly::Corrections;
-use lunisolar::{LunationAnswer, YearAnswer};
 use moon::phases::Phases;
 use node::Nodes;
 use refusal::Refusal;
@@ -15,82 +14,58 @@ use units::Xinghe;
 
 pub mod answers;
 
-#[derive(Clone, Copy)]
-pub enum PhasesAnswer {
-    Answered(Phases),
-    Refused(Refusal),
-}
-
-#[derive(Clone, Copy)]
-pub enum NodesAnswer {
-    Answered(Nodes),
-    Refused(Refusal),
-}
-
-#[derive(Clone, Copy)]
-pub enum CorrectionsAnswer {
-    Answered(Corrections),
-    Refused(Refusal),
-}
-
-#[derive(Clone, Copy)]
-pub enum PointAnswer {
-    Answered(Point),
-    Refused(Refusal),
-}
-
-pub fn phases(year: u64, place: u64) -> PhasesAnswer
+pub fn phases(year: u64, place: u64) -> Result<Phases, Refusal>
     ensures { result ≡ phases_at year place }
 {
     match Xinghe::lunation_at(year, place) {
-        LunationAnswer::Lunation(m) => PhasesAnswer::Answered(moon::phases::phases_of(m)),
-        LunationAnswer::Refused(e) => PhasesAnswer::Refused(e),
+        Ok(m) => Ok(moon::phases::phases_of(m)),
+        Err(e) => Err(e),
     }
 }
 
-pub fn nodes(year: u64, place: u64) -> NodesAnswer
+pub fn nodes(year: u64, place: u64) -> Result<Nodes, Refusal>
     ensures { result ≡ nodes_at year place }
 {
     match Xinghe::lunation_at(year, place) {
-        LunationAnswer::Lunation(m) => NodesAnswer::Answered(node::nodes_of(m)),
-        LunationAnswer::Refused(e) => NodesAnswer::Refused(e),
+        Ok(m) => Ok(node::nodes_of(m)),
+        Err(e) => Err(e),
     }
 }
 
-pub fn corrections(year: u64, place: u64) -> CorrectionsAnswer
+pub fn corrections(year: u64, place: u64) -> Result<Corrections, Refusal>
     ensures { result ≡ corrections_at year place }
 {
     match Xinghe::lunation_at(year, place) {
-        LunationAnswer::Lunation(m) => CorrectionsAnswer::Answered(anomaly::corrections_of(m)),
-        LunationAnswer::Refused(e) => CorrectionsAnswer::Refused(e),
+        Ok(m) => Ok(anomaly::corrections_of(m)),
+        Err(e) => Err(e),
     }
 }
 
 // Each cut has a branch of its own, so that its divisions are by a constant.
-fn point_in(y: u64, cut: u64, index: u64) -> PointAnswer
+fn point_in(y: u64, cut: u64, index: u64) -> Result<Point, Refusal>
     requires { y < 1048576 }
     ensures { result ≡ point_in y cut index }
 {
     if cut <= index {
-        return PointAnswer::Refused(Refusal::Cut);
+        return Err(Refusal::Cut);
     }
     if cut == 24 {
-        return PointAnswer::Answered(sun::point_of(y, 24, index));
+        return Ok(sun::point_of(y, 24, index));
     }
     if cut == 60 {
-        return PointAnswer::Answered(sun::point_of(y, 60, index));
+        return Ok(sun::point_of(y, 60, index));
     }
     if cut == 72 {
-        return PointAnswer::Answered(sun::point_of(y, 72, index));
+        return Ok(sun::point_of(y, 72, index));
     }
-    PointAnswer::Refused(Refusal::Cut)
+    Err(Refusal::Cut)
 }
 
-pub fn cut_point(year: u64, cut: u64, index: u64) -> PointAnswer
+pub fn cut_point(year: u64, cut: u64, index: u64) -> Result<Point, Refusal>
     ensures { result ≡ cut_point year cut index }
 {
     match Xinghe::year_at(year) {
-        YearAnswer::Past(y) => point_in(y, cut, index),
-        YearAnswer::Refused(e) => PointAnswer::Refused(e),
+        Ok(y) => point_in(y, cut, index),
+        Err(e) => Err(e),
     }
 }

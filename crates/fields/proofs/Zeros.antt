@@ -1,5 +1,6 @@
 -- What is written where a job refuses: zeros alone, as many as the lent array has.
 -- Assumes nothing.
+use Rattle.std.specs.Prelude.{Err}
 use mathlib.Core.Path.{◌≡◌, refl}
 use lib.ListN.{replicate}
 use Rattle.calendar.specs.Rows.{field_count, row_fields}
@@ -7,7 +8,6 @@ use Rattle.calendar.specs.Answers.{zero_head, zero_row}
 use Rattle.lunisolar.specs.Answers.{zero_day, zero_date}
 use Rattle.ephemeris.specs.Answers.{zero_phases, zero_nodes, zero_corrections, zero_point}
 use Rattle.refusal.specs.declared.Refusal.{Refusal}
-use Rattle.names.specs.declared.LocationAnswer.{LocationAnswer}
 use Rattle.planets.specs.Answers.{zero_conjunctions}
 use Rattle.planets.specs.Stages.{room, no_stages}
 use Rattle.walk.specs.Walked.{zero_walk}
@@ -38,7 +38,7 @@ pub record Zeros : Type 0 where
   pub zhengguang_head : zhengguang_head_fields zhengguang.zero_head ≡ replicate 6 0
   pub zhengguang_row : zhengguang-rows.row_fields zhengguang.zero_row ≡ replicate zhengguang-rows.field_count 0
   pub zhengguang_nodes : month_nodes_fields zhengguang.zero_nodes ≡ replicate 6 0
-  pub location : (e : Refusal) → location_fields (LocationAnswer.Refused e) ≡ replicate 2 0
+  pub location : (e : Refusal) → location_fields (Err e) ≡ replicate 2 0
 
 pub zeros : Zeros
 zeros =

@@ -1,9 +1,9 @@
 -- The values of each answer as the list of numbers that is written to the lent array, in the order of include/xinghe.h. A row's are its fields
 -- (calendar, `row_fields`).
 -- Assumes nothing.
-use Rattle.std.specs.Prelude.{List, [], ◌∷◌, map, ℕ}
+use Rattle.std.specs.Prelude.{Result, Ok, Err, List, [], ◌∷◌, map, ℕ}
+use Rattle.refusal.specs.declared.Refusal.{Refusal}
 use Rattle.names.specs.Names.{whose_number}
-use Rattle.names.specs.declared.LocationAnswer.{LocationAnswer}
 use Rattle.walking.specs.Fields.{bit_of}
 use Rattle.calendar.specs.declared.YearHead.{YearHead}
 use Rattle.lunisolar.specs.declared.dates.Day.{Day}
@@ -73,6 +73,6 @@ abbrev pub stages_fields : List Stage → List (List ℕ)
 stages_fields stages = map stage_fields stages
 
 -- where a name is found: the number of the list, and the byte of it, from 0, at which the name begins; both 0 where it is refused
-abbrev pub location_fields : LocationAnswer → List ℕ
-location_fields (LocationAnswer.Answered location) = whose_number location.whose ∷ location.from ∷ []
-location_fields (LocationAnswer.Refused e) = 0 ∷ 0 ∷ []
+abbrev pub location_fields : Result NameLocation Refusal → List ℕ
+location_fields (Ok location) = whose_number location.whose ∷ location.from ∷ []
+location_fields (Err e) = 0 ∷ 0 ∷ []

@@ -4,11 +4,12 @@
 ghost use Rattle.std.specs.Prelude.{◌≡◌};
 ghost use Rattle.fields.specs.Fields.{head_fields, day_fields, date_fields, phases_fields, nodes_fields, corrections_fields, point_fields, conjunctions_fields, location_fields};
 
+use refusal::Refusal;
+use refusal::Numbered;
 use anomaly::Corrections;
 use calendar::YearHead;
 use lunisolar::dates::{Date, Day};
 use moon::phases::Phases;
-use names::LocationAnswer;
 use node::Nodes;
 use planets::TwoConjunctions;
 use sun::Point;
@@ -180,15 +181,15 @@ pub fn conjunctions_fields(conjunctions: TwoConjunctions) -> [u64; 10]
     ]
 }
 
-pub fn location_fields(answer: LocationAnswer) -> [u64; 2]
+pub fn location_fields(answer: Result<NameLocation, Refusal>) -> [u64; 2]
     ensures { result ≡ location_fields answer }
 {
     match answer {
-        LocationAnswer::Answered(location) => {
+        Ok(location) => {
             let whose = location.whose;
             let whose = whose.number();
             [whose, location.from as u64]
         }
-        LocationAnswer::Refused(_) => [0, 0],
+        Err(_) => [0, 0],
     }
 }

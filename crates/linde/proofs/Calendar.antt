@@ -1,5 +1,6 @@
 -- What is promised of the Linde: the laws of any calendar, at its constants, and its numbers as 002 prints them.
 -- Assumes nothing.
+use Rattle.std.specs.Prelude.{Ok, Err}
 use mathlib.Core.Path.{◌≡◌, refl}
 use mathlib.Core.Logic.{◌⊎◌}
 use Prim.Native.Nat.{ℕ, ◌+◌, ◌*◌, ◌<◌}
@@ -8,22 +9,17 @@ use Rattle.reckoning.specs.Means.{new_moon}
 use Rattle.refusal.specs.declared.Refusal.{Refusal}
 use Rattle.lunisolar.specs.Dates.{day_of, day_of_date, date_of_day}
 use Rattle.lunisolar.specs.declared.dates.Date.{Date}
-use Rattle.lunisolar.specs.declared.dates.DateAnswer.{DateAnswer}
-use Rattle.lunisolar.specs.declared.dates.DayAnswer.{DayAnswer}
 use Rattle.lunisolar.proofs.Days as dates
 use Rattle.walking.proofs.Demand.{Demand}
 use Rattle.mean_calendar.specs.Heads.{year_head}
 use Rattle.mean_calendar.specs.Months.{month_row}
 use Rattle.mean_calendar.specs.Carries.{months_of, shown, carried}
 use Rattle.mean_calendar.specs.declared.MeanHead.{MeanHead}
-use Rattle.mean_calendar.specs.declared.MeanHeadAnswer.{MeanHeadAnswer}
 use Rattle.mean_calendar.specs.declared.MeanMonth.{MeanMonth}
-use Rattle.mean_calendar.specs.declared.MeanMonthAnswer.{MeanMonthAnswer}
 use Rattle.mean_calendar.proofs.LeapYears as leap-years
 use Rattle.mean_calendar.proofs.LeapYears.{Twelve, Thirteen}
 use Rattle.mean_calendar.proofs.Stays as any-calendar
 use Rattle.mean_walk.specs.Walked.{walked}
-use Rattle.mean_walk.specs.declared.MeanWalkAnswer.{MeanWalkAnswer}
 use Rattle.mean_walk.proofs.Demand3 as any-walk
 use Rattle.linde.specs.Linde.{N, D, P, year_parts, years, lunations, days, linde, means, rule}
 use Rattle.linde.proofs.Sound.{sound}
@@ -36,23 +32,23 @@ pub round_days_lem : new_moon means lunations ≡ days
 round_days_lem = sound.days
 
 -- EVERY YEAR HAS 12 MONTHS AND NO LEAP, OR 13 AND EXACTLY ONE
-pub twelve_or_thirteen : (n : ℕ) (head : MeanHead) → MeanHeadAnswer.Answered head ≡ year_head linde n → Twelve linde n head ⊎ Thirteen linde n head
+pub twelve_or_thirteen : (n : ℕ) (head : MeanHead) → Ok head ≡ year_head linde n → Twelve linde n head ⊎ Thirteen linde n head
 twelve_or_thirteen = leap-years.twelve_or_thirteen linde sound
 
 -- DATE AND DAY UNDO ONE ANOTHER, over all its days
 pub day_date_day : (d : ℕ) → d < days →
-    (x : Date) × (date_of_day linde d ≡ DateAnswer.Answered x) × (day_of_date linde x.year x.place x.day ≡ DayAnswer.Answered (day_of d))
+    (x : Date) × (date_of_day linde d ≡ Ok x) × (day_of_date linde x.year x.place x.day ≡ Ok (day_of d))
 day_date_day = dates.day_date_day linde sound
 
-pub date_day_date : (n p i d : ℕ) → day_of_date linde n p i ≡ DayAnswer.Answered (day_of d) → date_of_day linde d ≡ DateAnswer.Answered (record { year = n; place = p; day = i })
+pub date_day_date : (n p i d : ℕ) → day_of_date linde n p i ≡ Ok (day_of d) → date_of_day linde d ≡ Ok (record { year = n; place = p; day = i })
 date_day_date = dates.date_day_date linde sound
 
 -- DEMAND 3, over its months and all lists of counts
-pub demand_3 : Demand (months_of linde) shown (λ r cs. MeanWalkAnswer.Answered (walked linde r cs)) (MeanWalkAnswer.Refused Refusal.Row)
+pub demand_3 : Demand (months_of linde) shown (λ r cs. Ok (walked linde r cs)) (Err Refusal.Row)
 demand_3 = any-walk.demand_3 linde
 
 -- A CARRY STAYS WITHIN THE MONTHS OF ITS YEARS
-pub carry_stays : (r : MeanMonth) (c : ℤ) (x : MeanMonth) → carried linde r c ≡ MeanMonthAnswer.Answered x → (x.lunation < lunations) × (month_row linde x.year x.place ≡ MeanMonthAnswer.Answered x)
+pub carry_stays : (r : MeanMonth) (c : ℤ) (x : MeanMonth) → carried linde r c ≡ Ok x → (x.lunation < lunations) × (month_row linde x.year x.place ≡ Ok x)
 carry_stays = any-calendar.carry_stays linde sound
 
 -- the month is 29 days and 711 parts, and a term 15 days and 292 5/6 parts (002, 徑次朔 and 求恆次氣術)

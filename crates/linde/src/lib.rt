@@ -13,11 +13,10 @@ ghost use Rattle.mean_walk.specs.Walked.{walk_answer, walk_answer_fields};
 ghost use Rattle.mean_year.specs.Years.{mean_year};
 ghost use Rattle.linde.specs.Linde.{linde};
 
+use refusal::Refusal;
 use lunisolar::Constants;
-use lunisolar::dates::{DateAnswer, DayAnswer};
 use mean_calendar::carries::MonthFields;
-use mean_calendar::{MeanHeadAnswer, MeanMonth, MeanMonthAnswer, MeanPointAnswer};
-use mean_walk::MeanWalkAnswer;
+use mean_calendar::MeanMonth;
 use mean_year::{MeanYear, PLACES};
 
 #[derive(Clone, Copy)]
@@ -57,7 +56,7 @@ impl Linde {
         }
     }
 
-    pub fn year_head(year: u64) -> MeanHeadAnswer
+    pub fn year_head(year: u64) -> Result<MeanHead, Refusal>
         ensures { result ≡ year_head linde year }
     {
         let k = Linde::constants();
@@ -65,7 +64,7 @@ impl Linde {
         mean_calendar::heads::head_for(k, year, first)
     }
 
-    pub fn month_row(year: u64, place: u64) -> MeanMonthAnswer
+    pub fn month_row(year: u64, place: u64) -> Result<MeanMonth, Refusal>
         ensures { result ≡ month_row linde year place }
     {
         let k = Linde::constants();
@@ -73,19 +72,19 @@ impl Linde {
         mean_calendar::months::month_for(k, year, place, month)
     }
 
-    pub fn day_of_date(year: u64, place: u64, day: u64) -> DayAnswer
+    pub fn day_of_date(year: u64, place: u64, day: u64) -> Result<Day, Refusal>
         ensures { result ≡ day_of_date linde year place day }
     {
         lunisolar::dates::day_of_date(Linde::constants(), year, place, day)
     }
 
-    pub fn date_of_day(number: u64) -> DateAnswer
+    pub fn date_of_day(number: u64) -> Result<Date, Refusal>
         ensures { result ≡ date_of_day linde number }
     {
         lunisolar::dates::date_of_day(Linde::constants(), number)
     }
 
-    pub fn cut_point(year: u64, cut: u64, index: u64) -> MeanPointAnswer
+    pub fn cut_point(year: u64, cut: u64, index: u64) -> Result<MeanPoint, Refusal>
         ensures { result ≡ cut_point linde year cut index }
     {
         mean_calendar::cuts::cut_point(Linde::constants(), year, cut, index)
@@ -99,7 +98,7 @@ impl Linde {
     }
 
     // The month so many months on, or back, of a month handed in as numbers.
-    pub fn carry_fields(fields: &MonthFields, count: i64) -> MeanMonthAnswer
+    pub fn carry_fields(fields: &MonthFields, count: i64) -> Result<MeanMonth, Refusal>
         ensures { result ≡ carried_fields linde fields.now count }
     {
         let genuine = Linde::is_genuine(fields);
@@ -107,33 +106,33 @@ impl Linde {
     }
 
     // The same of a month.
-    pub fn carry(month: MeanMonth, count: i64) -> MeanMonthAnswer
+    pub fn carry(month: MeanMonth, count: i64) -> Result<MeanMonth, Refusal>
         ensures { result ≡ carried linde month count }
     {
         let fields = month.fields();
         Linde::carry_fields(&fields, count)
     }
 
-    pub fn next(month: MeanMonth) -> MeanMonthAnswer
+    pub fn next(month: MeanMonth) -> Result<MeanMonth, Refusal>
         ensures { result ≡ carried linde month (pos 1) }
     {
         Linde::carry(month, 1)
     }
 
-    pub fn back(month: MeanMonth) -> MeanMonthAnswer
+    pub fn back(month: MeanMonth) -> Result<MeanMonth, Refusal>
         ensures { result ≡ carried linde month (negsuc 0) }
     {
         Linde::carry(month, -1)
     }
 
-    pub fn walk_fields(start: &MonthFields, counts: &[i64]) -> MeanWalkAnswer
+    pub fn walk_fields(start: &MonthFields, counts: &[i64]) -> Result<MeanWalk, Refusal>
         ensures { result ≡ walk_answer_fields linde start.now counts.now }
     {
         let genuine = Linde::is_genuine(start);
         mean_walk::walk_tested(Linde::constants(), genuine, start, counts)
     }
 
-    pub fn walk(start: MeanMonth, counts: &[i64]) -> MeanWalkAnswer
+    pub fn walk(start: MeanMonth, counts: &[i64]) -> Result<MeanWalk, Refusal>
         ensures { result ≡ walk_answer linde start counts.now }
     {
         let fields = start.fields();
@@ -148,7 +147,7 @@ impl Linde {
     }
 
     // The same with the months as numbers in a lent array.
-    pub fn write_year(year: u64, rows: &mut [MonthFields; PLACES]) -> MeanHeadAnswer
+    pub fn write_year(year: u64, rows: &mut [MonthFields; PLACES]) -> Result<MeanHead, Refusal>
         ensures { (result ≡ year_head linde year) × (rows.new ≡ map month_fields (mean_year linde year).months) }
     {
         let head = Linde::year_head(year);

@@ -1,7 +1,7 @@
 // Lines of output for the programs cases and survey, and digests of what they are about. A line is built by value and written by one system call, since a call for each number would take most of the run.
 #![tactic(auto)]
 
-use refusal::Refusal;
+use refusal::{Numbered, Refusal};
 use walking::Sign;
 
 pub mod digest;

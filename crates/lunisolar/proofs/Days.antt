@@ -1,5 +1,7 @@
 -- The days of a calendar: each lies in exactly one month, and date to day number and day number to date undo one another.
 -- Assumes nothing.
+use Rattle.std.specs.Prelude.{Result, Ok, Err}
+use Rattle.std.specs.Result.{result_unwrap_or}
 use mathlib.Core.Path.{◌≡◌, ◌∙◌, refl, sym, ap}
 use Prim.Native.Nat.{ℕ, suc, ◌+◌, ◌-◌, ◌*◌, ◌<◌, ◌≤◌}
 use native.Mathlib.Omega.{arith}
@@ -15,12 +17,10 @@ use Rattle.reckoning.proofs.Dates.{month_is, month_from, month_to}
 use Rattle.refusal.specs.declared.Refusal.{Refusal}
 use Rattle.lunisolar.specs.Calendars.{means_of, Sound, lunation_at}
 use Rattle.lunisolar.specs.Dates.{day_of, month_days, length_by, day_in, day_for, day_of_date, date_in, date_of_day}
-use Rattle.lunisolar.specs.Answers.{day_values}
+use Rattle.lunisolar.specs.Answers.{zero_day}
 use Rattle.lunisolar.specs.declared.Constants.{Constants}
-use Rattle.lunisolar.specs.declared.LunationAnswer.{LunationAnswer}
 use Rattle.lunisolar.specs.declared.dates.Date.{Date}
-use Rattle.lunisolar.specs.declared.dates.DateAnswer.{DateAnswer}
-use Rattle.lunisolar.specs.declared.dates.DayAnswer.{DayAnswer}
+use Rattle.lunisolar.specs.declared.dates.Day.{Day}
 use Rattle.lunisolar.proofs.Laws.{days_climb}
 use Rattle.lunisolar.proofs.Rounds.{month_in_round, lunation_in_round, month_to_place, place_to_month}
 
@@ -70,13 +70,13 @@ module _ (k : Constants) (s : Sound k) where
       omega (arith, next_day m, w.upto, s.days, climb_le (new_moon (means_of k)) (days_climb k s) (suc m) k.lunations w.month)
 
   -- the date of day d of month m
-  date_within : (d m : ℕ) → Within k d m → date_of_day k d ≡ DateAnswer.Answered (date_in k m d)
+  date_within : (d m : ℕ) → Within k d m → date_of_day k d ≡ Ok (date_in k m d)
   unfolding date_of_day
   date_within d m w = rw (lt-ltb d k.days (in_the_round d m w), in_no_other d m w)
 
   -- DAY NUMBER TO DATE AND BACK: every day of the calendar has a date, whose day it is
   pub day_date_day : (d : ℕ) → d < k.days →
-      (x : Date) × (date_of_day k d ≡ DateAnswer.Answered x) × (day_of_date k x.year x.place x.day ≡ DayAnswer.Answered (day_of d))
+      (x : Date) × (date_of_day k d ≡ Ok x) × (day_of_date k x.year x.place x.day ≡ Ok (day_of d))
   unfolding day_for day_in date_in
   day_date_day d h =
       let m : ℕ = month_of (new_moon (means_of k)) d in
@@ -89,21 +89,21 @@ module _ (k : Constants) (s : Sound k) where
       )
 
   -- DATE TO DAY NUMBER AND BACK: every date that has a day is that day's date
-  pub date_day_date : (n p i d : ℕ) → day_of_date k n p i ≡ DayAnswer.Answered (day_of d) → date_of_day k d ≡ DateAnswer.Answered (record { year = n; place = p; day = i })
+  pub date_day_date : (n p i d : ℕ) → day_of_date k n p i ≡ Ok (day_of d) → date_of_day k d ≡ Ok (record { year = n; place = p; day = i })
   unfolding day_for day_in date_in
   date_day_date n p i d e = go (lunation_at k n p) refl e
     where
-      go : (a : LunationAnswer) → a ≡ lunation_at k n p → day_for k a i ≡ DayAnswer.Answered (day_of d) → date_of_day k d ≡ DateAnswer.Answered (record { year = n; place = p; day = i })
-      go (LunationAnswer.Lunation m) q e =
+      go : (a : Result ℕ Refusal) → a ≡ lunation_at k n p → day_for k a i ≡ Ok (day_of d) → date_of_day k d ≡ Ok (record { year = n; place = p; day = i })
+      go (Ok m) q e =
           let f : ℕ = new_moon (means_of k) m in
           let t : ℕ = suc (month_days k m) in
-          let r = chosen (between 1 i t) (DayAnswer.Answered (day_of (f + (i - 1)))) (DayAnswer.Refused Refusal.DayOfMonth) (DayAnswer.Answered (day_of d)) (sym e)
+          let r = chosen (between 1 i t) (Ok (day_of (f + (i - 1)))) (Err Refusal.DayOfMonth) (Ok (day_of d)) (sym e)
           (λ z. let bad : ◌≡◌ {A = ℕ} 0 1 = cc in omega arith) in
-          let same : d ≡ f + (i - 1) = ap (λ (x : DayAnswer). (day_values x).number) r.1 in
+          let same : d ≡ f + (i - 1) = ap (λ (x : Result Day Refusal). (result_unwrap_or x zero_day).number) r.1 in
           let lo = between_low 1 i t r.0 in
           let hi = between_high 1 i t r.0 in
           let w : Within k d m = record { month = lunation_in_round k s n p m q; from = omega arith; upto = omega arith } in
           let at = place_to_month k s n p m q in
           let day : d - f + 1 ≡ i = omega arith in
           date_within d m w ∙ rw (at.0, at.1, day)
-      go (LunationAnswer.Refused x) q e = let bad : ◌≡◌ {A = ℕ} 0 1 = cc in absurd (omega arith)
+      go (Err x) q e = let bad : ◌≡◌ {A = ℕ} 0 1 = cc in absurd (omega arith)

@@ -1,5 +1,6 @@
 -- Of any calendar with sound constants: the laws of its leap rule, the bounds of its figures, and what its answers say.
 -- Assumes nothing.
+use Rattle.std.specs.Prelude.{Result, Ok, Err}
 use mathlib.Core.Path.{◌≡◌, refl, sym}
 use mathlib.Core.Logic.{⊎_elim}
 use Prim.Native.Nat.{ℕ, zero, suc, ◌+◌, ◌-◌, ◌*◌, ◌/◌, ◌≤◌, ◌<◌}
@@ -22,8 +23,6 @@ use Rattle.reckoning.proofs.Leaps.{year_high, year_ends, two_kinds, Common, Long
 use Rattle.refusal.specs.declared.Refusal.{Refusal}
 use Rattle.lunisolar.specs.Calendars.{means_of, rule_of, Sound, year_at, lunation_for, lunation_at}
 use Rattle.lunisolar.specs.declared.Constants.{Constants}
-use Rattle.lunisolar.specs.declared.YearAnswer.{YearAnswer}
-use Rattle.lunisolar.specs.declared.LunationAnswer.{LunationAnswer}
 
 -- a product of two bounded numbers
 pub product : (a b c d : ℕ) → a ≤ c → b ≤ d → a * b ≤ c * d
@@ -79,19 +78,19 @@ pub record YearFound (k : Constants) (n y : ℕ) : Type 0 where
   pub upto : y < k.years
   pub written : n ≡ y + k.first
 
-pub year_found : (k : Constants) (n y : ℕ) → YearAnswer.Past y ≡ year_at k n → YearFound k n y
+pub year_found : (k : Constants) (n y : ℕ) → Ok y ≡ year_at k n → YearFound k n y
 unfolding year_at
 year_found k n y e =
     let a : ℕ = k.first in
     let b : ℕ = k.first + k.years in
-    let r = chosen (between a n b) (YearAnswer.Past (n - a)) (YearAnswer.Refused Refusal.Year) (YearAnswer.Past y) e (λ z. let bad : ◌≡◌ {A = ℕ} 0 1 = cc in omega arith) in
+    let r = chosen (between a n b) (Ok (n - a)) (Err Refusal.Year) (Ok y) e (λ z. let bad : ◌≡◌ {A = ℕ} 0 1 = cc in omega arith) in
     let q : y ≡ n - a = cc r.1 in
     record {
       upto = omega (arith, between_low a n b r.0, between_high a n b r.0);
       written = omega (arith, between_low a n b r.0);
     }
 
-pub year_at_lem : (k : Constants) (y : ℕ) → y < k.years → year_at k (y + k.first) ≡ YearAnswer.Past y
+pub year_at_lem : (k : Constants) (y : ℕ) → y < k.years → year_at k (y + k.first) ≡ Ok y
 unfolding year_at
 year_at_lem k y h =
     let e : y + k.first - k.first ≡ y = omega arith in
@@ -104,16 +103,16 @@ pub record LunationFound (k : Constants) (n p m : ℕ) : Type 0 where
   pub place : p < month_count (rule_of k) year
   pub month : m ≡ (rule_of k).before year + p
 
-pub lunation_found : (k : Constants) (n p m : ℕ) → LunationAnswer.Lunation m ≡ lunation_at k n p → LunationFound k n p m
+pub lunation_found : (k : Constants) (n p m : ℕ) → Ok m ≡ lunation_at k n p → LunationFound k n p m
 unfolding lunation_for
 lunation_found k n p m e = go (year_at k n) refl e
   where
-    go : (a : YearAnswer) → a ≡ year_at k n → LunationAnswer.Lunation m ≡ lunation_for k a p → LunationFound k n p m
-    go (YearAnswer.Past y) q e =
-        let r = chosen (ltb p (month_count (rule_of k) y)) (LunationAnswer.Lunation ((rule_of k).before y + p)) (LunationAnswer.Refused Refusal.Place) (LunationAnswer.Lunation m) e (λ z. let bad : ◌≡◌ {A = ℕ} 0 1 = cc in omega arith) in
+    go : (a : Result ℕ Refusal) → a ≡ year_at k n → Ok m ≡ lunation_for k a p → LunationFound k n p m
+    go (Ok y) q e =
+        let r = chosen (ltb p (month_count (rule_of k) y)) (Ok ((rule_of k).before y + p)) (Err Refusal.Place) (Ok m) e (λ z. let bad : ◌≡◌ {A = ℕ} 0 1 = cc in omega arith) in
         record { year = y; found = year_found k n y q; place = ltb→lt p (month_count (rule_of k) y) r.0; month = cc r.1 }
-    go (YearAnswer.Refused x) q e = let bad : ◌≡◌ {A = ℕ} 0 1 = cc in absurd (omega arith)
+    go (Err x) q e = let bad : ◌≡◌ {A = ℕ} 0 1 = cc in absurd (omega arith)
 
-pub lunation_at_lem : (k : Constants) (y p : ℕ) → y < k.years → p < month_count (rule_of k) y → lunation_at k (y + k.first) p ≡ LunationAnswer.Lunation ((rule_of k).before y + p)
+pub lunation_at_lem : (k : Constants) (y p : ℕ) → y < k.years → p < month_count (rule_of k) y → lunation_at k (y + k.first) p ≡ Ok ((rule_of k).before y + p)
 unfolding lunation_for
 lunation_at_lem k y p h i = rw (year_at_lem k y h, lt-ltb p (month_count (rule_of k) y) i)

@@ -1,6 +1,9 @@
 -- The numbers returned (01, "Numbers returned") in any calendar, as equations on all inputs, the lowest that applies first; and zero values with each
 -- refusal.
 -- Assumes nothing.
+use Rattle.std.specs.Prelude.{Result, Ok, Err}
+use Rattle.refusal.specs.Numbers.{answer_number}
+use Rattle.std.specs.Result.{result_unwrap_or}
 use mathlib.Core.Path.{◌≡◌, ◌∙◌, refl, ap}
 use mathlib.Core.Bool.{Bool}
 use Prim.Native.Nat.{ℕ, suc, ◌+◌, ◌-◌}
@@ -13,12 +16,10 @@ use Rattle.reckoning.proofs.Searches.{through}
 use Rattle.refusal.specs.declared.Refusal.{Refusal}
 use Rattle.lunisolar.specs.Calendars.{means_of, rule_of, year_at, lunation_for, lunation_at}
 use Rattle.lunisolar.specs.Dates.{day_of, month_days, day_in, day_for, day_of_date, date_in, date_of_day}
-use Rattle.lunisolar.specs.Answers.{day_number, day_values, zero_day, date_number, date_values, zero_date}
+use Rattle.lunisolar.specs.Answers.{zero_day, zero_date}
 use Rattle.lunisolar.specs.declared.Constants.{Constants}
-use Rattle.lunisolar.specs.declared.YearAnswer.{YearAnswer}
-use Rattle.lunisolar.specs.declared.LunationAnswer.{LunationAnswer}
-use Rattle.lunisolar.specs.declared.dates.DayAnswer.{DayAnswer}
-use Rattle.lunisolar.specs.declared.dates.DateAnswer.{DateAnswer}
+use Rattle.lunisolar.specs.declared.dates.Date.{Date}
+use Rattle.lunisolar.specs.declared.dates.Day.{Day}
 
 module _ (k : Constants) where
   -- the year is one of the calendar's
@@ -34,34 +35,34 @@ module _ (k : Constants) where
   is_day n p i = between 1 i (suc (month_days k ((rule_of k).before (n - k.first) + p)))
 
   -- what is made of a year that is sought, and of a place in it
-  pub of_year : {B : Type 0} (f : YearAnswer → B) (n : ℕ) → f (year_at k n) ≡ pick (is_year n) (f (YearAnswer.Past (n - k.first))) (f (YearAnswer.Refused Refusal.Year))
+  pub of_year : {B : Type 0} (f : Result ℕ Refusal → B) (n : ℕ) → f (year_at k n) ≡ pick (is_year n) (f (Ok (n - k.first))) (f (Err Refusal.Year))
   unfolding year_at
-  of_year f n = through f (is_year n) (YearAnswer.Past (n - k.first)) (YearAnswer.Refused Refusal.Year)
+  of_year f n = through f (is_year n) (Ok (n - k.first)) (Err Refusal.Year)
 
-  pub of_place : {B : Type 0} (f : LunationAnswer → B) (n p : ℕ) → f (lunation_at k n p) ≡
-      pick (is_year n) (pick (is_place n p) (f (LunationAnswer.Lunation ((rule_of k).before (n - k.first) + p))) (f (LunationAnswer.Refused Refusal.Place))) (f (LunationAnswer.Refused Refusal.Year))
+  pub of_place : {B : Type 0} (f : Result ℕ Refusal → B) (n p : ℕ) → f (lunation_at k n p) ≡
+      pick (is_year n) (pick (is_place n p) (f (Ok ((rule_of k).before (n - k.first) + p))) (f (Err Refusal.Place))) (f (Err Refusal.Year))
   unfolding lunation_for
   of_place f n p =
       of_year (λ a. f (lunation_for k a p)) n
-      ∙ ap (λ x. pick (is_year n) x (f (LunationAnswer.Refused Refusal.Year)))
-      (through f (is_place n p) (LunationAnswer.Lunation ((rule_of k).before (n - k.first) + p)) (LunationAnswer.Refused Refusal.Place))
+      ∙ ap (λ x. pick (is_year n) x (f (Err Refusal.Year)))
+      (through f (is_place n p) (Ok ((rule_of k).before (n - k.first) + p)) (Err Refusal.Place))
 
-  pub day_numbers : (n p i : ℕ) → day_number (day_of_date k n p i) ≡ pick (is_year n) (pick (is_place n p) (pick (is_day n p i) 0 3) 2) 1
+  pub day_numbers : (n p i : ℕ) → answer_number (day_of_date k n p i) ≡ pick (is_year n) (pick (is_place n p) (pick (is_day n p i) 0 3) 2) 1
   unfolding day_for day_in
   day_numbers n p i =
-      of_place (λ a. day_number (day_for k a i)) n p
+      of_place (λ a. answer_number (day_for k a i)) n p
       ∙ ap (λ (x : ℕ). pick (is_year n) (pick (is_place n p) x 2) 1)
-      (through day_number (is_day n p i) (DayAnswer.Answered (day_of (new_moon (means_of k) ((rule_of k).before (n - k.first) + p) + (i - 1)))) (DayAnswer.Refused Refusal.DayOfMonth))
+      (through answer_number (is_day n p i) (Ok (day_of (new_moon (means_of k) ((rule_of k).before (n - k.first) + p) + (i - 1)))) (Err Refusal.DayOfMonth))
 
-  pub date_numbers : (d : ℕ) → date_number (date_of_day k d) ≡ pick (ltb d k.days) 0 7
+  pub date_numbers : (d : ℕ) → answer_number (date_of_day k d) ≡ pick (ltb d k.days) 0 7
   unfolding date_of_day
-  date_numbers d = through date_number (ltb d k.days) (DateAnswer.Answered (date_in k (month_of (new_moon (means_of k)) d) d)) (DateAnswer.Refused Refusal.Day)
+  date_numbers d = through answer_number (ltb d k.days) (Ok (date_in k (month_of (new_moon (means_of k)) d) d)) (Err Refusal.Day)
 
 -- where the number is not 0, the values are all zero
-pub day_zero : (a : DayAnswer) → ¬ (day_number a ≡ 0) → day_values a ≡ zero_day
-day_zero (DayAnswer.Answered x) h = absurd (h refl)
-day_zero (DayAnswer.Refused e) h = refl
+pub day_zero : (a : Result Day Refusal) → ¬ (answer_number a ≡ 0) → result_unwrap_or a zero_day ≡ zero_day
+day_zero (Ok x) h = absurd (h refl)
+day_zero (Err e) h = refl
 
-pub date_zero : (a : DateAnswer) → ¬ (date_number a ≡ 0) → date_values a ≡ zero_date
-date_zero (DateAnswer.Answered x) h = absurd (h refl)
-date_zero (DateAnswer.Refused e) h = refl
+pub date_zero : (a : Result Date Refusal) → ¬ (answer_number a ≡ 0) → result_unwrap_or a zero_date ≡ zero_date
+date_zero (Ok x) h = absurd (h refl)
+date_zero (Err e) h = refl

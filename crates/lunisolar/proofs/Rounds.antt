@@ -1,5 +1,7 @@
 -- The months of a calendar's years: where each stands, how it is named, and how many there are.
 -- Assumes nothing.
+use Rattle.std.specs.Prelude.{Result, Ok, Err}
+use Rattle.refusal.specs.declared.Refusal.{Refusal}
 use mathlib.Core.Path.{◌≡◌, refl, sym}
 use Prim.Native.Nat.{ℕ, suc, ◌+◌, ◌-◌, ◌≤◌, ◌<◌}
 use native.Mathlib.Omega.{arith}
@@ -14,7 +16,6 @@ use Rattle.reckoning.proofs.Dates.{month_under}
 use Rattle.lunisolar.specs.Calendars.{means_of, rule_of, Sound, InCalendar, Stands, lunation_at}
 use Rattle.lunisolar.specs.Names.{name_of}
 use Rattle.lunisolar.specs.declared.Constants.{Constants}
-use Rattle.lunisolar.specs.declared.LunationAnswer.{LunationAnswer}
 use Rattle.lunisolar.proofs.Laws.{laws_of, days_climb, lunation_found, lunation_at_lem}
 
 module _ (k : Constants) (s : Sound k) where
@@ -54,32 +55,32 @@ module _ (k : Constants) (s : Sound k) where
     stands = record { year = year_in_round; place = place_in (rule_of k) (laws_of k s) m; month = sym (month_back (rule_of k) (laws_of k s) m) }
 
     -- MONTH TO YEAR AND PLACE AND BACK
-    pub month_to_place : lunation_at k (name_of k m).year (name_of k m).place ≡ LunationAnswer.Lunation m
+    pub month_to_place : lunation_at k (name_of k m).year (name_of k m).place ≡ Ok m
     unfolding name_of
     month_to_place =
         let L = laws_of k s in
         rw (lunation_at_lem k (year_of (rule_of k) m) (place_of (rule_of k) m) year_in_round (place_in (rule_of k) L m), month_back (rule_of k) L m)
 
   -- a month that is answered stands there
-  pub found : (n p m : ℕ) → LunationAnswer.Lunation m ≡ lunation_at k n p → (k.first ≤ n) × Stands k (n - k.first) p m
+  pub found : (n p m : ℕ) → Ok m ≡ lunation_at k n p → (k.first ≤ n) × Stands k (n - k.first) p m
   found n p m e =
       let f = lunation_found k n p m e in
       let q : f.year ≡ n - k.first = omega (arith, f.found.written) in
       (omega (arith, f.found.written), rw (← q) (record { year = f.found.upto; place = f.place; month = f.month }))
 
-  pub lunation_in_round : (n p m : ℕ) → LunationAnswer.Lunation m ≡ lunation_at k n p → m < k.lunations
+  pub lunation_in_round : (n p m : ℕ) → Ok m ≡ lunation_at k n p → m < k.lunations
   lunation_in_round n p m e = in_round_lem (n - k.first) p m (found n p m e).1
 
   -- so what is answered for a year and a place is in the calendar
   pub in_calendar : (n p : ℕ) → InCalendar k (lunation_at k n p)
   in_calendar n p = go (lunation_at k n p) refl
     where
-      go : (a : LunationAnswer) → a ≡ lunation_at k n p → InCalendar k a
-      go (LunationAnswer.Lunation m) e = lunation_in_round n p m e
-      go (LunationAnswer.Refused x) e = tt
+      go : (a : Result ℕ Refusal) → a ≡ lunation_at k n p → InCalendar k a
+      go (Ok m) e = lunation_in_round n p m e
+      go (Err x) e = tt
 
   -- YEAR AND PLACE TO MONTH AND BACK
-  pub place_to_month : (n p m : ℕ) → LunationAnswer.Lunation m ≡ lunation_at k n p → ((name_of k m).year ≡ n) × ((name_of k m).place ≡ p)
+  pub place_to_month : (n p m : ℕ) → Ok m ≡ lunation_at k n p → ((name_of k m).year ≡ n) × ((name_of k m).place ≡ p)
   unfolding name_of
   place_to_month n p m e =
       let f = found n p m e in

@@ -1,14 +1,12 @@
 -- A calendar by its constants: its mean moon and sun, its leap rule, and the month at a place of a year.
 -- Assumes nothing.
-use Rattle.std.specs.Prelude.{◌≡◌, ℕ, ◌+◌, ◌-◌, ◌≤◌, ◌<◌, ltb}
+use Rattle.std.specs.Prelude.{Result, Ok, Err, ◌≡◌, ℕ, ◌+◌, ◌-◌, ◌≤◌, ◌<◌, ltb}
 use Rattle.reckoning.specs.Search.{pick, between}
 use Rattle.reckoning.specs.Rule.{Rule, month_count}
 use Rattle.reckoning.specs.Means.{Means, new_moon, MonthBound, YearBound, GainBound}
 use Rattle.reckoning.specs.Days.{by_days}
 use Rattle.refusal.specs.declared.Refusal.{Refusal}
 use Rattle.lunisolar.specs.declared.Constants.{Constants}
-use Rattle.lunisolar.specs.declared.YearAnswer.{YearAnswer}
-use Rattle.lunisolar.specs.declared.LunationAnswer.{LunationAnswer}
 
 -- its mean moon and sun
 abbrev pub means_of : Constants → Means
@@ -33,22 +31,22 @@ pub record Sound (k : Constants) : Type 0 where
   pub days : new_moon (means_of k) k.lunations ≡ k.days
 
 -- the years past at year n, which is n less the number of the first; refused under 1 where the calendar has no such year
-unfoldable pub year_at : Constants → ℕ → YearAnswer
-year_at k n = pick (between k.first n (k.first + k.years)) (YearAnswer.Past (n - k.first)) (YearAnswer.Refused Refusal.Year)
+unfoldable pub year_at : Constants → ℕ → Result ℕ Refusal
+year_at k n = pick (between k.first n (k.first + k.years)) (Ok (n - k.first)) (Err Refusal.Year)
 
 -- the month at place p of year n: refused as the year is, then under 2 where the year has no such place
-unfoldable pub lunation_for : Constants → YearAnswer → ℕ → LunationAnswer
-lunation_for k (YearAnswer.Past y) p =
-    pick (ltb p (month_count (rule_of k) y)) (LunationAnswer.Lunation ((rule_of k).before y + p)) (LunationAnswer.Refused Refusal.Place)
-lunation_for k (YearAnswer.Refused e) p = LunationAnswer.Refused e
+unfoldable pub lunation_for : Constants → Result ℕ Refusal → ℕ → Result ℕ Refusal
+lunation_for k (Ok y) p =
+    pick (ltb p (month_count (rule_of k) y)) (Ok ((rule_of k).before y + p)) (Err Refusal.Place)
+lunation_for k (Err e) p = Err e
 
-abbrev pub lunation_at : Constants → ℕ → ℕ → LunationAnswer
+abbrev pub lunation_at : Constants → ℕ → ℕ → Result ℕ Refusal
 lunation_at k n p = lunation_for k (year_at k n) p
 
 -- a month that is answered is one of the calendar's
-abbrev pub InCalendar : Constants → LunationAnswer → Type 0
-InCalendar k (LunationAnswer.Lunation m) = m < k.lunations
-InCalendar k (LunationAnswer.Refused e) = Unit {0}
+abbrev pub InCalendar : Constants → Result ℕ Refusal → Type 0
+InCalendar k (Ok m) = m < k.lunations
+InCalendar k (Err e) = Unit {0}
 
 -- month m stands at place p of the year with y years past
 pub record Stands (k : Constants) (y p m : ℕ) : Type 0 where

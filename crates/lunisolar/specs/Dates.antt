@@ -1,6 +1,6 @@
 -- Dates and day numbers (01, "Years and months" and "Numbers returned").
 -- Assumes nothing.
-use Rattle.std.specs.Prelude.{ℕ, suc, ◌+◌, ◌-◌, ◌*◌, leb, ltb}
+use Rattle.std.specs.Prelude.{Result, Ok, Err, ℕ, suc, ◌+◌, ◌-◌, ◌*◌, leb, ltb}
 use Rattle.reckoning.specs.Search.{pick, between}
 use Rattle.reckoning.specs.Means.{new_moon}
 use Rattle.reckoning.specs.Dates.{month_of}
@@ -9,11 +9,8 @@ use Rattle.lunisolar.specs.Sixty.{sexagenary_of}
 use Rattle.lunisolar.specs.Calendars.{means_of, lunation_at}
 use Rattle.lunisolar.specs.Names.{name_of}
 use Rattle.lunisolar.specs.declared.Constants.{Constants}
-use Rattle.lunisolar.specs.declared.LunationAnswer.{LunationAnswer}
 use Rattle.lunisolar.specs.declared.dates.Day.{Day}
-use Rattle.lunisolar.specs.declared.dates.DayAnswer.{DayAnswer}
 use Rattle.lunisolar.specs.declared.dates.Date.{Date}
-use Rattle.lunisolar.specs.declared.dates.DateAnswer.{DateAnswer}
 
 -- a day by its number
 abbrev pub day_of : ℕ → Day
@@ -28,16 +25,16 @@ abbrev pub length_by : Constants → ℕ → ℕ
 length_by k rest = pick (leb (30 * k.day - k.month) rest) 30 29
 
 -- day i of month m, counted from 1: refused under 3 where i is 0 or past the month's length
-unfoldable pub day_in : Constants → ℕ → ℕ → DayAnswer
+unfoldable pub day_in : Constants → ℕ → ℕ → Result Day Refusal
 day_in k m i =
-    pick (between 1 i (suc (month_days k m))) (DayAnswer.Answered (day_of (new_moon (means_of k) m + (i - 1)))) (DayAnswer.Refused Refusal.DayOfMonth)
+    pick (between 1 i (suc (month_days k m))) (Ok (day_of (new_moon (means_of k) m + (i - 1)))) (Err Refusal.DayOfMonth)
 
 -- day i of the month at place p of year n: refused as the month is, then as the day is
-unfoldable pub day_for : Constants → LunationAnswer → ℕ → DayAnswer
-day_for k (LunationAnswer.Lunation m) i = day_in k m i
-day_for k (LunationAnswer.Refused e) i = DayAnswer.Refused e
+unfoldable pub day_for : Constants → Result ℕ Refusal → ℕ → Result Day Refusal
+day_for k (Ok m) i = day_in k m i
+day_for k (Err e) i = Err e
 
-abbrev pub day_of_date : Constants → ℕ → ℕ → ℕ → DayAnswer
+abbrev pub day_of_date : Constants → ℕ → ℕ → ℕ → Result Day Refusal
 day_of_date k n p i = day_for k (lunation_at k n p) i
 
 -- the date of day d of month m
@@ -45,5 +42,5 @@ unfoldable pub date_in : Constants → ℕ → ℕ → Date
 date_in k m d = record { year = (name_of k m).year; place = (name_of k m).place; day = d - new_moon (means_of k) m + 1 }
 
 -- the date of a day, in the month that it lies in: refused under 7 past the calendar's last day
-unfoldable pub date_of_day : Constants → ℕ → DateAnswer
-date_of_day k d = pick (ltb d k.days) (DateAnswer.Answered (date_in k (month_of (new_moon (means_of k)) d) d)) (DateAnswer.Refused Refusal.Day)
+unfoldable pub date_of_day : Constants → ℕ → Result Date Refusal
+date_of_day k d = pick (ltb d k.days) (Ok (date_in k (month_of (new_moon (means_of k)) d) d)) (Err Refusal.Day)

@@ -5,87 +5,73 @@ ghost use Rattle.reckoning.specs.Means.{new_moon};
 ghost use Rattle.reckoning.specs.Dates.{month_of};
 ghost use Rattle.lunisolar.specs.Calendars.{Sound, InCalendar, means_of, rule_of};
 ghost use Rattle.lunisolar.specs.Dates.{day_in, day_for, day_of_date, date_in, date_of_day};
-ghost use Rattle.lunisolar.specs.Answers.{day_number, day_values, zero_day, date_number, date_values, zero_date};
+ghost use Rattle.lunisolar.specs.Answers.{zero_day, zero_date};
 
+use crate::Constants;
 use crate::means::{month_length, month_of_day, new_moon_day};
 use crate::rule::{months_before, year_of};
-use crate::{Constants, LunationAnswer};
 use refusal::Refusal;
 
 // A day: its number, and its day of the sixty, from 1.
-#[derive(Clone, Copy)]
+#[derive(Clone, Copy, Default)]
 pub struct Day {
     pub number: u64,
     pub sexagenary: u64,
 }
 
-#[derive(Clone, Copy)]
-pub enum DayAnswer {
-    Answered(Day),
-    Refused(Refusal),
-}
-
 // A date: a year, a place and a day of the month, from 1.
-#[derive(Clone, Copy)]
+#[derive(Clone, Copy, Default)]
 pub struct Date {
     pub year: u64,
     pub place: u64,
     pub day: u64,
 }
 
-#[derive(Clone, Copy)]
-pub enum DateAnswer {
-    Answered(Date),
-    Refused(Refusal),
-}
-
 // A day of month m, from 1.
-pub fn day_in(k: Constants, m: u64, day: u64) -> DayAnswer
+pub fn day_in(k: Constants, m: u64, day: u64) -> Result<Day, Refusal>
     requires { Sound k × (m < 16777216) }
     ensures { result ≡ day_in k m day }
 {
     if day < 1 {
-        return DayAnswer::Refused(Refusal::DayOfMonth);
+        return Err(Refusal::DayOfMonth);
     }
     if month_length(k, m) < day {
-        return DayAnswer::Refused(Refusal::DayOfMonth);
+        return Err(Refusal::DayOfMonth);
     }
     let number = new_moon_day(k, m) + (day - 1);
-    DayAnswer::Answered(Day {
+    Ok(Day {
         number,
         sexagenary: crate::sixty::sexagenary(number),
     })
 }
 
 // A day of a month that was sought, from 1: refused as the month is, then as the day is.
-pub fn day_for(k: Constants, month: LunationAnswer, day: u64) -> DayAnswer
+#[tactic(auto, unfolding(crate::specs::Dates::day_for))]
+pub fn day_for(k: Constants, month: Result<u64, Refusal>, day: u64) -> Result<Day, Refusal>
     requires { Sound k × InCalendar k month }
     ensures { result ≡ day_for k month day }
 {
-    match month {
-        LunationAnswer::Lunation(m) => day_in(k, m, day),
-        LunationAnswer::Refused(e) => DayAnswer::Refused(e),
-    }
+    day_in(k, month?, day)
 }
 
-pub fn day_of_date(k: Constants, year: u64, place: u64, day: u64) -> DayAnswer
+pub fn day_of_date(k: Constants, year: u64, place: u64, day: u64) -> Result<Day, Refusal>
     requires { Sound k }
     ensures { result ≡ day_of_date k year place day }
 {
     day_for(k, crate::lunation_at(k, year, place), day)
 }
 
-pub fn date_of_day(k: Constants, number: u64) -> DateAnswer
+pub fn date_of_day(k: Constants, number: u64) -> Result<Date, Refusal>
     requires { Sound k }
     ensures { result ≡ date_of_day k number }
 {
     if k.days <= number {
-        return DateAnswer::Refused(Refusal::Day);
+        return Err(Refusal::Day);
     }
     let m = month_of_day(k, number);
     let y = year_of(k, m);
     let before = months_before(k, y);
-    DateAnswer::Answered(date_in(k, y, before, m, number))
+    Ok(date_in(k, y, before, m, number))
 }
 
 // The date of a day, with the month that it lies in, the year of that, counted from 0, and the months before the year.
@@ -97,68 +83,5 @@ pub fn date_in(k: Constants, y: u64, before: u64, m: u64, day: u64) -> Date
         year: y + k.first,
         place: m - before,
         day: day - new_moon_day(k, m) + 1,
-    }
-}
-
-impl DayAnswer {
-    pub fn number(self) -> u64
-        ensures { result ≡ day_number self }
-    {
-        match self {
-            DayAnswer::Answered(_) => 0,
-            DayAnswer::Refused(e) => e.number(),
-        }
-    }
-
-    pub fn values(self) -> Day
-        ensures { result ≡ day_values self }
-    {
-        match self {
-            DayAnswer::Answered(day) => day,
-            DayAnswer::Refused(_) => Day::zero(),
-        }
-    }
-}
-
-impl DateAnswer {
-    pub fn number(self) -> u64
-        ensures { result ≡ date_number self }
-    {
-        match self {
-            DateAnswer::Answered(_) => 0,
-            DateAnswer::Refused(e) => e.number(),
-        }
-    }
-
-    pub fn values(self) -> Date
-        ensures { result ≡ date_values self }
-    {
-        match self {
-            DateAnswer::Answered(date) => date,
-            DateAnswer::Refused(_) => Date::zero(),
-        }
-    }
-}
-
-impl Day {
-    pub fn zero() -> Day
-        ensures { result ≡ zero_day }
-    {
-        Day {
-            number: 0,
-            sexagenary: 0,
-        }
-    }
-}
-
-impl Date {
-    pub fn zero() -> Date
-        ensures { result ≡ zero_date }
-    {
-        Date {
-            year: 0,
-            place: 0,
-            day: 0,
-        }
     }
 }

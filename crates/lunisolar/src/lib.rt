@@ -5,7 +5,6 @@
 ghost use Rattle.std.specs.Prelude.{◌≡◌, ◌<◌, ltb};
 ghost use Rattle.reckoning.specs.Rule.{month_count};
 ghost use Rattle.lunisolar.specs.Calendars.{Sound, rule_of, year_at, lunation_for, lunation_at};
-ghost use Rattle.lunisolar.specs.declared.YearAnswer.{YearAnswer};
 
 use refusal::Refusal;
 
@@ -31,33 +30,19 @@ pub struct Constants {
     pub days: u64,
 }
 
-// How many years are past before a year as it is written.
-#[derive(Clone, Copy)]
-pub enum YearAnswer {
-    Past(u64),
-    Refused(Refusal),
-}
-
-// The month of the calendar at a place of a year.
-#[derive(Clone, Copy)]
-pub enum LunationAnswer {
-    Lunation(u64),
-    Refused(Refusal),
-}
-
 // The years past before a year as it is written.
-pub fn year_at(k: Constants, year: u64) -> YearAnswer
+pub fn year_at(k: Constants, year: u64) -> Result<u64, Refusal>
     requires { Sound k }
     ensures { result ≡ year_at k year }
 {
     if year < k.first {
-        return YearAnswer::Refused(Refusal::Year);
+        return Err(Refusal::Year);
     }
     let past = year - k.first;
     if k.years <= past {
-        return YearAnswer::Refused(Refusal::Year);
+        return Err(Refusal::Year);
     }
-    YearAnswer::Past(past)
+    Ok(past)
 }
 
 // Whether year y, counted from 0, with so many months before it, has a place.
@@ -73,27 +58,24 @@ fn has_place(k: Constants, y: u64, before: u64, place: u64) -> bool
 }
 
 // The month at a place of year y, counted from 0, from the months before it.
-pub fn lunation_in(k: Constants, y: u64, before: u64, place: u64) -> LunationAnswer
+pub fn lunation_in(k: Constants, y: u64, before: u64, place: u64) -> Result<u64, Refusal>
     requires { Sound k × (y < 1048576) × (before ≡ (rule_of k).before y) }
-    ensures { result ≡ lunation_for k (YearAnswer.Past y) place }
+    ensures { result ≡ lunation_for k (Ok y) place }
 {
     if has_place(k, y, before, place) {
-        LunationAnswer::Lunation(before + place)
+        Ok(before + place)
     } else {
-        LunationAnswer::Refused(Refusal::Place)
+        Err(Refusal::Place)
     }
 }
 
 // The month at a place of a year as it is written.
-pub fn lunation_at(k: Constants, year: u64, place: u64) -> LunationAnswer
+#[tactic(auto, unfolding(crate::specs::Calendars::lunation_for))]
+pub fn lunation_at(k: Constants, year: u64, place: u64) -> Result<u64, Refusal>
     requires { Sound k }
     ensures { result ≡ lunation_at k year place }
 {
-    match year_at(k, year) {
-        YearAnswer::Past(y) => {
-            let before = rule::months_before(k, y);
-            lunation_in(k, y, before, place)
-        }
-        YearAnswer::Refused(e) => LunationAnswer::Refused(e),
-    }
+    let y = year_at(k, year)?;
+    let before = rule::months_before(k, y);
+    lunation_in(k, y, before, place)
 }

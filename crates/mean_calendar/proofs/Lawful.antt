@@ -1,5 +1,7 @@
 -- The months of any calendar keep the laws that walks ask, so every theorem of the crate `walking` holds of them.
 -- Assumes nothing.
+use Rattle.std.specs.Prelude.{Result, Ok, Err}
+use Rattle.refusal.specs.declared.Refusal.{Refusal}
 use mathlib.Core.Path.{◌≡◌, refl}
 use mathlib.Core.Bool.{true}
 use Prim.Native.Nat.{ℕ, ◌<◌}
@@ -9,7 +11,7 @@ use lib.Dec.{eqb, eqb→eq}
 use lib.ListN.{get_or}
 use Rattle.reckoning.proofs.Searches.{all_at}
 use Rattle.lunisolar.specs.declared.Constants.{Constants}
-use Rattle.walking.specs.Walk.{Answer, answered, refused}
+
 use Rattle.walking.specs.Fields.{same_fields}
 use Rattle.walking.proofs.Walks.{Lawful}
 use Rattle.walking.proofs.Bits.{bit_eq}
@@ -49,8 +51,8 @@ unfolding month_of
 lawful k = record { month_row_lem = λ m h. refl; same_refl = same_refl k; same_eq = same_eq k }
 
 -- an answer as the code returns it loses nothing
-pub lossless : (a b : Answer MeanMonth) → shown a ≡ shown b → a ≡ b
-lossless (answered r) (answered s) e = cc
-lossless (answered r) (refused e) q = cc
-lossless (refused e) (answered s) q = cc
-lossless (refused e) (refused f) q = cc
+pub lossless : (a b : Result MeanMonth Refusal) → shown a ≡ shown b → a ≡ b
+lossless (Ok r) (Ok s) e = cc
+lossless (Ok r) (Err e) q = cc
+lossless (Err e) (Ok s) q = cc
+lossless (Err e) (Err f) q = cc

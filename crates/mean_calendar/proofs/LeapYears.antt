@@ -1,5 +1,7 @@
 -- Every year has 12 months and no leap month, or 13 and exactly one, as its head and its months say it.
 -- Assumes nothing.
+use Rattle.std.specs.Prelude.{Ok}
+use Rattle.std.specs.Result.{result_unwrap_or}
 use mathlib.Core.Path.{◌≡◌, ◌∙◌, refl, sym, ap}
 use mathlib.Core.Bool.{true, false}
 use mathlib.Core.Logic.{◌⊎◌, inl, inr, ⊎_elim}
@@ -17,25 +19,24 @@ use Rattle.lunisolar.proofs.Laws.{laws_of}
 use Rattle.lunisolar.proofs.Rounds.{name_at_lem}
 use Rattle.mean_calendar.specs.Heads.{head_of, year_head}
 use Rattle.mean_calendar.specs.Months.{month_of, month_row}
-use Rattle.mean_calendar.specs.Answers.{month_values}
+use Rattle.mean_calendar.specs.Answers.{zero_month}
 use Rattle.mean_calendar.specs.declared.MeanHead.{MeanHead}
-use Rattle.mean_calendar.specs.declared.MeanHeadAnswer.{MeanHeadAnswer}
 use Rattle.mean_calendar.proofs.Found.{head_found, head_stands, head_month}
 
 -- twelve months, none of them marked leap; or thirteen, of which the one at the leap place is marked and no other
 pub record Twelve (k : Constants) (n : ℕ) (head : MeanHead) : Type 0 where
   pub count : head.months ≡ 12
   pub place : head.leap ≡ 0
-  pub unmarked : (p : ℕ) → p < 12 → (month_values (month_row k n p)).leap ≡ false
+  pub unmarked : (p : ℕ) → p < 12 → (result_unwrap_or (month_row k n p) zero_month).leap ≡ false
 
 pub record Thirteen (k : Constants) (n : ℕ) (head : MeanHead) : Type 0 where
   pub count : head.months ≡ 13
   pub from : 0 < head.leap
   pub upto : head.leap ≤ 12
-  pub marked : (month_values (month_row k n head.leap)).leap ≡ true
-  pub no_other : (p : ℕ) → p < 13 → ¬ (p ≡ head.leap) → (month_values (month_row k n p)).leap ≡ false
+  pub marked : (result_unwrap_or (month_row k n head.leap) zero_month).leap ≡ true
+  pub no_other : (p : ℕ) → p < 13 → ¬ (p ≡ head.leap) → (result_unwrap_or (month_row k n p) zero_month).leap ≡ false
 
-module _ (k : Constants) (s : Sound k) (n : ℕ) (head : MeanHead) (e : MeanHeadAnswer.Answered head ≡ year_head k n) where
+module _ (k : Constants) (s : Sound k) (n : ℕ) (head : MeanHead) (e : Ok head ≡ year_head k n) where
   abbrev y : ℕ
   y = n - k.first
 
@@ -48,11 +49,11 @@ module _ (k : Constants) (s : Sound k) (n : ℕ) (head : MeanHead) (e : MeanHead
   is_count = rw (head_found k n head e).is_head
 
   -- the mark of the month at a place, by the leap place
-  mark_at : (p : ℕ) → p < head.months → (month_values (month_row k n p)).leap ≡ leap_at head.leap p
+  mark_at : (p : ℕ) → p < head.months → (result_unwrap_or (month_row k n p) zero_month).leap ≡ leap_at head.leap p
   unfolding month_of
   mark_at p h =
       let t = head_stands k n head e p h in
-      ap (λ a. (month_values a).leap) (sym (head_month k n head e p h))
+      ap (λ a. (result_unwrap_or a zero_month).leap) (sym (head_month k n head e p h))
       ∙ ap (λ (m : ℕ). (name_of k m).leap) t.month
       ∙ ap (λ (x : MonthName). x.leap) (name_at_lem k s y p t.place)
       ∙ ap (λ (l : ℕ). leap_at l p) (sym is_leap_lem)

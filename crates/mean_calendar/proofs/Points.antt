@@ -1,5 +1,6 @@
 -- The tests of a cut and a point, by what the code has found; and the instant of a point.
 -- Assumes nothing.
+use Rattle.std.specs.Prelude.{Ok, Err}
 use mathlib.Core.Path.{◌≡◌, ◌∙◌, ap}
 use mathlib.Core.Bool.{true, and-false}
 use Prim.Native.Nat.{ℕ, ◌+◌, ◌*◌, ◌/◌, ◌%◌, ◌≤◌, ◌<◌}
@@ -11,18 +12,17 @@ use Rattle.lunisolar.specs.Calendars.{Sound}
 use Rattle.lunisolar.specs.declared.Constants.{Constants}
 use Rattle.mean_calendar.specs.Points.{is_cut, point_of, point_in}
 use Rattle.mean_calendar.specs.declared.MeanPoint.{MeanPoint}
-use Rattle.mean_calendar.specs.declared.MeanPointAnswer.{MeanPointAnswer}
 
 module _ (k : Constants) (y c i : ℕ) where
-  pub past : c ≤ i → point_in k y c i ≡ MeanPointAnswer.Refused Refusal.Cut
+  pub past : c ≤ i → point_in k y c i ≡ Err Refusal.Cut
   unfolding point_in
   past h = rw (le-ltb i c h, and-false (is_cut c))
 
-  pub on_cut : is_cut c ≡ true → i < c → point_in k y c i ≡ MeanPointAnswer.Answered (point_of k y c i)
+  pub on_cut : is_cut c ≡ true → i < c → point_in k y c i ≡ Ok (point_of k y c i)
   unfolding point_in
   on_cut e h = rw (e, lt-ltb i c h)
 
-  pub no_cut : (c ≡ 24 → ⊥) → (c ≡ 60 → ⊥) → (c ≡ 72 → ⊥) → point_in k y c i ≡ MeanPointAnswer.Refused Refusal.Cut
+  pub no_cut : (c ≡ 24 → ⊥) → (c ≡ 60 → ⊥) → (c ≡ 72 → ⊥) → point_in k y c i ≡ Err Refusal.Cut
   unfolding point_in
   no_cut a b d = rw (ne_eqb c 24 a, ne_eqb c 60 b, ne_eqb c 72 d)
 

@@ -1,5 +1,6 @@
 -- The solstice and the middle terms of any calendar: among the points of a cut, and among the months.
 -- Assumes nothing.
+use Rattle.std.specs.Prelude.{Ok}
 use mathlib.Core.Path.{◌≡◌, refl, sym}
 use mathlib.Core.Logic.{◌↔◌}
 use Prim.Native.Nat.{ℕ, suc, ◌+◌, ◌-◌, ◌*◌, ◌/◌, ◌≤◌, ◌<◌}
@@ -20,7 +21,6 @@ use Rattle.mean_calendar.specs.Heads.{head_of, year_head}
 use Rattle.mean_calendar.specs.Months.{month_of}
 use Rattle.mean_calendar.specs.Points.{point_of}
 use Rattle.mean_calendar.specs.declared.MeanHead.{MeanHead}
-use Rattle.mean_calendar.specs.declared.MeanHeadAnswer.{MeanHeadAnswer}
 use Rattle.mean_calendar.proofs.Found.{head_found}
 
 module _ (k : Constants) (s : Sound k) where
@@ -54,7 +54,7 @@ module _ (k : Constants) (s : Sound k) where
   pub no_middle_term : (y m j : ℕ) → (rule_of k).before y ≤ m → m < (rule_of k).before (suc y) → T (is_leap (rule_of k) y m) → ¬ (T ((rule_of k).holds m j))
   no_middle_term = leaps.leap_holds_none (rule_of k) (laws_of k s)
 
-  module _ (n : ℕ) (head : MeanHead) (e : MeanHeadAnswer.Answered head ≡ year_head k n) where
+  module _ (n : ℕ) (head : MeanHead) (e : Ok head ≡ year_head k n) where
     abbrev y : ℕ
     y = n - k.first
 

@@ -1,29 +1,29 @@
 -- Months carried by signed counts (01, "Walks"): the carry of any calendar of a round, at its constants.
 -- Assumes nothing.
-use Rattle.std.specs.Prelude.{Bool, List, ℕ, ℤ}
+use Rattle.std.specs.Prelude.{Result, Ok, Err, Bool, List, ℕ, ℤ}
+use Rattle.refusal.specs.declared.Refusal.{Refusal}
 use Rattle.lunisolar.specs.declared.Constants.{Constants}
-use Rattle.walking.specs.Walk.{Calendar, Answer, answered, refused, carry}
+use Rattle.walking.specs.Walk.{Calendar, carry}
 use Rattle.walking.specs.Fields.{same_fields, genuine_by, carried_by}
 use Rattle.mean_calendar.specs.Months.{field_count, month_fields, month_of}
 use Rattle.mean_calendar.specs.declared.MeanMonth.{MeanMonth}
-use Rattle.mean_calendar.specs.declared.MeanMonthAnswer.{MeanMonthAnswer}
 
 -- the months of the calendar's years; two are the same where they are so in every field
 abbrev pub months_of : Constants → Calendar MeanMonth
 months_of k = record { size = k.lunations; row = month_of k; month = λ r. r.lunation; same = λ r s. same_fields field_count (month_fields r) (month_fields s) }
 
 -- an answer as the code returns it
-abbrev pub shown : Answer MeanMonth → MeanMonthAnswer
-shown (answered month) = MeanMonthAnswer.Answered month
-shown (refused e) = MeanMonthAnswer.Refused e
+abbrev pub shown : Result MeanMonth Refusal → Result MeanMonth Refusal
+shown (Ok month) = Ok month
+shown (Err e) = Err e
 
 -- the carry of a month by a count
-abbrev pub carried : Constants → MeanMonth → ℤ → MeanMonthAnswer
+abbrev pub carried : Constants → MeanMonth → ℤ → Result MeanMonth Refusal
 carried k r c = shown (carry (months_of k) r c)
 
 -- a month handed in as numbers: whether it is genuine, and its carry by a count
 abbrev pub genuine_fields : Constants → List ℕ → Bool
 genuine_fields k f = genuine_by (months_of k) field_count month_fields f
 
-abbrev pub carried_fields : Constants → List ℕ → ℤ → MeanMonthAnswer
+abbrev pub carried_fields : Constants → List ℕ → ℤ → Result MeanMonth Refusal
 carried_fields k f c = shown (carried_by (months_of k) field_count month_fields f c)

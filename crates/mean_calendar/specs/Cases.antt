@@ -1,13 +1,11 @@
 -- Cases of any calendar, to be shown of its definitions as one table.
 -- Assumes nothing.
-use Rattle.std.specs.Prelude.{◌≡◌, Bool, List, [], ◌∷◌, ℕ}
+use Rattle.std.specs.Prelude.{Ok, Err, ◌≡◌, Bool, List, [], ◌∷◌, ℕ}
 use Rattle.refusal.specs.declared.Refusal.{Refusal}
 use Rattle.lunisolar.specs.Sixty.{sexagenary_of}
 use Rattle.lunisolar.specs.declared.Constants.{Constants}
 use Rattle.mean_calendar.specs.Heads.{year_head}
 use Rattle.mean_calendar.specs.Months.{month_row}
-use Rattle.mean_calendar.specs.declared.MeanHeadAnswer.{MeanHeadAnswer}
-use Rattle.mean_calendar.specs.declared.MeanMonthAnswer.{MeanMonthAnswer}
 
 pub data Case : Type 0 where
   -- a year: months before, month count, leap place, solstice day and remainder
@@ -19,11 +17,11 @@ pub data Case : Type 0 where
 
 abbrev pub Holds : Constants → Case → Type 0
 Holds k (head n b m l d r) =
-    year_head k n ≡ MeanHeadAnswer.Answered (record { before = b; months = m; leap = l; solstice = d; remainder = record { parts = r } })
+    year_head k n ≡ Ok (record { before = b; months = m; leap = l; solstice = d; remainder = record { parts = r } })
 Holds k (month n p m i l d x r w) =
-    (month_row k n p ≡ MeanMonthAnswer.Answered (record { lunation = m; year = n; place = p; number = i; leap = l; day = d; remainder = record { parts = r }; length = w }))
+    (month_row k n p ≡ Ok (record { lunation = m; year = n; place = p; number = i; leap = l; day = d; remainder = record { parts = r }; length = w }))
     × (sexagenary_of d ≡ x)
-Holds k (none n) = year_head k n ≡ MeanHeadAnswer.Refused Refusal.Year
+Holds k (none n) = year_head k n ≡ Err Refusal.Year
 
 abbrev pub All : Constants → List Case → Type 0
 All k [] = Unit {0}

@@ -1,13 +1,12 @@
 -- A year's head (01, "Years and months"), in any calendar.
 -- Assumes nothing.
-use Rattle.std.specs.Prelude.{ℕ, ◌*◌}
+use Rattle.std.specs.Prelude.{Result, Ok, Err, ℕ, ◌*◌}
+use Rattle.refusal.specs.declared.Refusal.{Refusal}
 use Rattle.reckoning.specs.Rule.{month_count, leap_place}
 use Rattle.lunisolar.specs.Calendars.{rule_of, year_at}
 use Rattle.lunisolar.specs.declared.Constants.{Constants}
-use Rattle.lunisolar.specs.declared.YearAnswer.{YearAnswer}
 use Rattle.mean_calendar.specs.Parts.{over_degree}
 use Rattle.mean_calendar.specs.declared.MeanHead.{MeanHead}
-use Rattle.mean_calendar.specs.declared.MeanHeadAnswer.{MeanHeadAnswer}
 
 -- of the year with y years past: the months before it, the month count, the leap place, and the winter solstice, which is y years from the origin:
 -- whole days, and the remainder over the degree divisor
@@ -22,9 +21,9 @@ head_of k y =
     }
 
 -- of year n as it is written; refused under 1 where the calendar has no such year
-unfoldable pub head_for : Constants → YearAnswer → MeanHeadAnswer
-head_for k (YearAnswer.Past y) = MeanHeadAnswer.Answered (head_of k y)
-head_for k (YearAnswer.Refused e) = MeanHeadAnswer.Refused e
+unfoldable pub head_for : Constants → Result ℕ Refusal → Result MeanHead Refusal
+head_for k (Ok y) = Ok (head_of k y)
+head_for k (Err e) = Err e
 
-abbrev pub year_head : Constants → ℕ → MeanHeadAnswer
+abbrev pub year_head : Constants → ℕ → Result MeanHead Refusal
 year_head k n = head_for k (year_at k n)

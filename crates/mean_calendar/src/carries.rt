@@ -4,10 +4,10 @@ ghost use Rattle.lunisolar.specs.Calendars.{Sound};
 ghost use Rattle.mean_calendar.specs.Months.{month_fields};
 ghost use Rattle.mean_calendar.specs.Carries.{genuine_fields, carried_fields};
 
+use refusal::Refusal;
 use crate::months::month_of;
-use crate::{MeanMonth, MeanMonthAnswer};
+use crate::MeanMonth;
 use lunisolar::Constants;
-use walking::Landing;
 use walking::fields::{bit, same_fields};
 
 // How many numbers a month has.
@@ -54,12 +54,12 @@ pub fn carry_tested(
     genuine: bool,
     fields: &MonthFields,
     count: i64,
-) -> MeanMonthAnswer
+) -> Result<MeanMonth, Refusal>
     requires { Sound k × (genuine ≡ genuine_fields k fields.now) }
     ensures { result ≡ carried_fields k fields.now count }
 {
     match walking::land(k.lunations, genuine, fields[0], count) {
-        Landing::Month(m) => MeanMonthAnswer::Answered(month_of(k, m)),
-        Landing::Refused(e) => MeanMonthAnswer::Refused(e),
+        Ok(m) => Ok(month_of(k, m)),
+        Err(e) => Err(e),
     }
 }

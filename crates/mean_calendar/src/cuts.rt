@@ -4,8 +4,8 @@ ghost use Rattle.lunisolar.specs.Calendars.{Sound};
 ghost use Rattle.mean_calendar.specs.Points.{point_of, point_in, cut_point};
 
 use crate::parts::over_degree;
-use crate::{MeanPoint, MeanPointAnswer};
-use lunisolar::{Constants, YearAnswer};
+use crate::MeanPoint;
+use lunisolar::Constants;
 use refusal::Refusal;
 
 // Point `index` of year y, counted from 0, cut in `cut` equal parts.
@@ -24,31 +24,31 @@ fn point_of(k: Constants, y: u64, cut: u64, index: u64) -> MeanPoint
 }
 
 // Each cut has a branch of its own, so that its divisions are by a constant.
-fn point_in(k: Constants, y: u64, cut: u64, index: u64) -> MeanPointAnswer
+fn point_in(k: Constants, y: u64, cut: u64, index: u64) -> Result<MeanPoint, Refusal>
     requires { Sound k × (y < 1048576) }
     ensures { result ≡ point_in k y cut index }
 {
     if cut <= index {
-        return MeanPointAnswer::Refused(Refusal::Cut);
+        return Err(Refusal::Cut);
     }
     if cut == 24 {
-        return MeanPointAnswer::Answered(point_of(k, y, 24, index));
+        return Ok(point_of(k, y, 24, index));
     }
     if cut == 60 {
-        return MeanPointAnswer::Answered(point_of(k, y, 60, index));
+        return Ok(point_of(k, y, 60, index));
     }
     if cut == 72 {
-        return MeanPointAnswer::Answered(point_of(k, y, 72, index));
+        return Ok(point_of(k, y, 72, index));
     }
-    MeanPointAnswer::Refused(Refusal::Cut)
+    Err(Refusal::Cut)
 }
 
-pub fn cut_point(k: Constants, year: u64, cut: u64, index: u64) -> MeanPointAnswer
+pub fn cut_point(k: Constants, year: u64, cut: u64, index: u64) -> Result<MeanPoint, Refusal>
     requires { Sound k }
     ensures { result ≡ cut_point k year cut index }
 {
     match lunisolar::year_at(k, year) {
-        YearAnswer::Past(y) => point_in(k, y, cut, index),
-        YearAnswer::Refused(e) => MeanPointAnswer::Refused(e),
+        Ok(y) => point_in(k, y, cut, index),
+        Err(e) => Err(e),
     }
 }

@@ -3,9 +3,10 @@ ghost use Rattle.std.specs.Prelude.{◌≡◌, ◌<◌};
 ghost use Rattle.lunisolar.specs.Calendars.{Sound, rule_of, lunation_at};
 ghost use Rattle.mean_calendar.specs.Heads.{head_of, year_head};
 
+use refusal::Refusal;
 use crate::parts::over_degree;
-use crate::{MeanHead, MeanHeadAnswer};
-use lunisolar::{Constants, LunationAnswer};
+use crate::MeanHead;
+use lunisolar::Constants;
 
 // Of year y, counted from 0, from the months before it.
 fn head_of(k: Constants, y: u64, before: u64) -> MeanHead
@@ -25,14 +26,14 @@ fn head_of(k: Constants, y: u64, before: u64) -> MeanHead
 }
 
 // The head of a year whose first month was sought: its number is the months before the year.
-pub fn head_for(k: Constants, year: u64, first: LunationAnswer) -> MeanHeadAnswer
+pub fn head_for(k: Constants, year: u64, first: Result<u64, Refusal>) -> Result<MeanHead, Refusal>
     requires { Sound k × (first ≡ lunation_at k year 0) }
     ensures { result ≡ year_head k year }
 {
     match first {
-        LunationAnswer::Lunation(before) => {
-            MeanHeadAnswer::Answered(head_of(k, year - k.first, before))
+        Ok(before) => {
+            Ok(head_of(k, year - k.first, before))
         }
-        LunationAnswer::Refused(e) => MeanHeadAnswer::Refused(e),
+        Err(e) => Err(e),
     }
 }

@@ -22,12 +22,6 @@ pub struct MeanHead {
     pub remainder: DegreeParts,
 }
 
-#[derive(Clone, Copy)]
-pub enum MeanHeadAnswer {
-    Answered(MeanHead),
-    Refused(Refusal),
-}
-
 // A month: its number from the origin (積月), its year and place, its month number (11 at place 0), whether it is the leap month (閏月), its first day
 // with the small remainder (小餘) of its new moon, and its length. These are 01's eight fields: every calendar's rows have them.
 #[derive(Clone, Copy)]
@@ -42,12 +36,6 @@ pub struct MeanMonth {
     pub length: u64,
 }
 
-#[derive(Clone, Copy)]
-pub enum MeanMonthAnswer {
-    Answered(MeanMonth),
-    Refused(Refusal),
-}
-
 // A point of a cut of the year: its day, its remainder over the degree divisor, and the rest of a part over the cut.
 #[derive(Clone, Copy)]
 pub struct MeanPoint {
@@ -56,8 +44,3 @@ pub struct MeanPoint {
     pub rest: u64,
 }
 
-#[derive(Clone, Copy)]
-pub enum MeanPointAnswer {
-    Answered(MeanPoint),
-    Refused(Refusal),
-}

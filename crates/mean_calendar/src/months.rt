@@ -7,14 +7,13 @@ ghost use Rattle.lunisolar.specs.Dates.{month_days};
 ghost use Rattle.mean_calendar.specs.Parts.{over_day};
 ghost use Rattle.mean_calendar.specs.Heads.{year_head};
 ghost use Rattle.mean_calendar.specs.Months.{month_of, month_row};
-ghost use Rattle.mean_calendar.specs.declared.MeanHeadAnswer.{MeanHeadAnswer};
-ghost use Rattle.mean_calendar.specs.declared.MeanMonthAnswer.{MeanMonthAnswer};
 
+use refusal::Refusal;
 use crate::parts::{DayShare, over_day};
-use crate::{MeanHead, MeanMonth, MeanMonthAnswer};
+use crate::{MeanHead, MeanMonth};
 use lunisolar::means::month_length;
 use lunisolar::naming::MonthName;
-use lunisolar::{Constants, LunationAnswer};
+use lunisolar::Constants;
 
 // The month whose name, new moon and length are at hand. Nothing is worked out, so that the constants stand in the contract alone.
 pub fn month_by(
@@ -71,23 +70,23 @@ pub fn month_of(k: Constants, lunation: u64) -> MeanMonth
 }
 
 // The month at a place of a year, which was sought there.
-pub fn month_for(k: Constants, year: u64, place: u64, month: LunationAnswer) -> MeanMonthAnswer
+pub fn month_for(k: Constants, year: u64, place: u64, month: Result<u64, Refusal>) -> Result<MeanMonth, Refusal>
     requires { Sound k × (month ≡ lunation_at k year place) }
     ensures { result ≡ month_row k year place }
 {
     match month {
-        LunationAnswer::Lunation(m) => {
+        Ok(m) => {
             // the month less its place is the months before its year
-            MeanMonthAnswer::Answered(month_from(k, year - k.first, m - place, m))
+            Ok(month_from(k, year - k.first, m - place, m))
         }
-        LunationAnswer::Refused(e) => MeanMonthAnswer::Refused(e),
+        Err(e) => Err(e),
     }
 }
 
 // The month at a place of a year whose head is at hand: one head serves all months of its year.
 pub fn month_under(k: Constants, year: u64, head: MeanHead, place: u64) -> MeanMonth
-    requires { Sound k × (MeanHeadAnswer.Answered head ≡ year_head k year) × (place < head.months) }
-    ensures { MeanMonthAnswer.Answered result ≡ month_row k year place }
+    requires { Sound k × (Ok head ≡ year_head k year) × (place < head.months) }
+    ensures { Ok result ≡ month_row k year place }
 {
     let name = lunisolar::naming::name_under(k, year - k.first, head.leap, place);
     let lunation = head.before + place;

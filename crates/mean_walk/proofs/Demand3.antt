@@ -1,5 +1,6 @@
 -- Demand 3 of any calendar, once over its constants.
 -- Assumes nothing.
+use Rattle.std.specs.Prelude.{Ok, Err}
 use mathlib.Core.Path.{◌≡◌}
 use Prim.Native.Nat.{ℕ}
 use native.Mathlib.Omega.{arith}
@@ -9,10 +10,9 @@ use Rattle.walking.proofs.Demand.{Demand, demand}
 use Rattle.mean_calendar.specs.Carries.{months_of, shown}
 use Rattle.mean_calendar.proofs.Lawful.{lawful, lossless}
 use Rattle.mean_walk.specs.Walked.{walked}
-use Rattle.mean_walk.specs.declared.MeanWalkAnswer.{MeanWalkAnswer}
 
 -- WALKING AND DIRECT WORKING ARE ONE THING: for every month and every list of counts
-pub demand_3 : (k : Constants) → Demand (months_of k) shown (λ r cs. MeanWalkAnswer.Answered (walked k r cs)) (MeanWalkAnswer.Refused Refusal.Row)
+pub demand_3 : (k : Constants) → Demand (months_of k) shown (λ r cs. Ok (walked k r cs)) (Err Refusal.Row)
 demand_3 k =
-    demand (months_of k) (lawful k) shown lossless (λ r cs. MeanWalkAnswer.Answered (walked k r cs)) (MeanWalkAnswer.Refused Refusal.Row)
+    demand (months_of k) (lawful k) shown lossless (λ r cs. Ok (walked k r cs)) (Err Refusal.Row)
     (λ r cs e. let bad : ◌≡◌ {A = ℕ} 0 1 = cc in omega arith)

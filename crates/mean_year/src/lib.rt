@@ -7,9 +7,10 @@ ghost use Rattle.mean_calendar.specs.Heads.{year_head};
 ghost use Rattle.mean_calendar.specs.Months.{month_fields};
 ghost use Rattle.mean_year.specs.Years.{places, month_at, mean_year};
 
+use refusal::Refusal;
 use lunisolar::Constants;
 use mean_calendar::carries::MonthFields;
-use mean_calendar::{MeanHeadAnswer, MeanMonth};
+use mean_calendar::MeanMonth;
 
 // How many places a year may have.
 pub const PLACES: usize = 13;
@@ -17,33 +18,33 @@ pub const PLACES: usize = 13;
 // Its head, or why it is refused, and its months by place, with zeros past them.
 #[derive(Clone, Copy)]
 pub struct MeanYear {
-    pub head: MeanHeadAnswer,
+    pub head: Result<MeanHead, Refusal>,
     pub months: [MeanMonth; PLACES],
 }
 
 // The month at a place of the year with that head; zeros where there is none.
-pub fn month_at(k: Constants, year: u64, head: MeanHeadAnswer, place: u64) -> MeanMonth
+pub fn month_at(k: Constants, year: u64, head: Result<MeanHead, Refusal>, place: u64) -> MeanMonth
     requires { Sound k × (head ≡ year_head k year) }
     ensures { result ≡ month_at k year place }
 {
     match head {
-        MeanHeadAnswer::Answered(head) => {
+        Ok(head) => {
             if place < head.months {
                 mean_calendar::months::month_under(k, year, head, place)
             } else {
-                MeanMonth::zero()
+                MeanMonth::default()
             }
         }
-        MeanHeadAnswer::Refused(_) => MeanMonth::zero(),
+        Err(_) => MeanMonth::default(),
     }
 }
 
 // The year with that head.
-pub fn year_under(k: Constants, year: u64, head: MeanHeadAnswer) -> MeanYear
+pub fn year_under(k: Constants, year: u64, head: Result<MeanHead, Refusal>) -> MeanYear
     requires { Sound k × (head ≡ year_head k year) }
     ensures { result ≡ mean_year k year }
 {
-    let mut months = [MeanMonth::zero(); PLACES];
+    let mut months = [MeanMonth::default(); PLACES];
     let mut i = 0;
     while i < PLACES {
         months[i] = month_at(k, year, head, i as u64);
@@ -53,7 +54,7 @@ pub fn year_under(k: Constants, year: u64, head: MeanHeadAnswer) -> MeanYear
 }
 
 // The months of the year with that head, as numbers, in a lent list of thirteen: so they are made where they are wanted, and nothing is copied.
-pub fn write_months(k: Constants, year: u64, head: MeanHeadAnswer, rows: &mut [MonthFields])
+pub fn write_months(k: Constants, year: u64, head: Result<MeanHead, Refusal>, rows: &mut [MonthFields])
     requires { Sound k × (head ≡ year_head k year) × (length rows.old ≡ places) }
     ensures { rows.new ≡ map month_fields (mean_year k year).months }
 {

@@ -1,5 +1,6 @@
 -- What an answer says, and when it is given.
 -- Assumes nothing.
+use Rattle.std.specs.Prelude.{Result, Ok, Err}
 use mathlib.Core.Path.{◌≡◌, refl, sym, ap, ◌∙◌}
 use mathlib.Core.Logic.{◌↔◌}
 use mathlib.Core.Bool.{Bool, true, false}
@@ -18,12 +19,11 @@ use Rattle.volumes.specs.Reader.{block_count}
 use Rattle.volumes.proofs.Parts.{block_in_lem}
 use Rattle.mending.specs.FirstYear.{implied_first, known}
 use Rattle.mending.specs.Mended.{most_blocks, mendable, called_for, differing, damaged, mend_answer, volume_after, list_after, after_mend, after_notes}
-use Rattle.mending.specs.declared.MendAnswer.{MendAnswer}
 use Rattle.mending.proofs.FirstYears.{length_of_lem}
 use Rattle.mending.proofs.Notes.{afresh_is, differing_few}
 use Rattle.mending.proofs.Implied.{Implied, known_implied, first_implied, implied_known}
 
-tests : (p q : Bool) (m k : ℕ) → pick p (pick q (MendAnswer.Mended m) (MendAnswer.Refused Refusal.FirstYear)) (MendAnswer.Refused Refusal.Volume) ≡ MendAnswer.Mended k → (T p) × (T q) × (m ≡ k)
+tests : (p q : Bool) (m k : ℕ) → pick p (pick q (Ok m) (Err Refusal.FirstYear)) (Err Refusal.Volume) ≡ Ok k → (T p) × (T q) × (m ≡ k)
 tests true true m k e = (tt, tt, cc)
 tests true false m k e = let z : ◌≡◌ {A = ℕ} 0 1 = cc in absurd (omega arith)
 tests false q m k e = let z : ◌≡◌ {A = ℕ} 0 1 = cc in absurd (omega arith)
@@ -34,7 +34,7 @@ pub record Answered (bytes : List ℕ) (first k : ℕ) : Type 0 where
   pub implied : Implied bytes first
   pub count : k ≡ length (differing bytes first (block_count bytes))
 
-pub answered : (bytes : List ℕ) (k : ℕ) → mend_answer bytes ≡ MendAnswer.Mended k → Answered bytes (implied_first bytes) k
+pub answered : (bytes : List ℕ) (k : ℕ) → mend_answer bytes ≡ Ok k → Answered bytes (implied_first bytes) k
 unfolding mend_answer
 answered bytes k e =
     let t = tests (mendable (length bytes)) (known bytes) (length (damaged bytes)) k e in
@@ -44,7 +44,7 @@ module _ (bytes : List ℕ) (first k : ℕ) (a : Answered bytes first k) where
   first_is : implied_first bytes ≡ first
   first_is = first_implied bytes first a.implied
 
-  pub mends : mend_answer bytes ≡ MendAnswer.Mended k
+  pub mends : mend_answer bytes ≡ Ok k
   unfolding mend_answer
   mends =
       rw (T_true (mendable (length bytes)) a.whole, T_true (known bytes) (implied_known bytes first a.implied), first_is, a.count)
@@ -73,7 +73,7 @@ module _ (bytes : List ℕ) (first k : ℕ) (a : Answered bytes first k) where
 
 -- A VOLUME IS MENDED EXACTLY WHERE it has one to 1,024 whole blocks, one of them is sound, each sound one names one first year plus its index, and
 -- the run from that year on stays in the round; and the answer is how many blocks differ from what that year calls for
-pub mends_exactly : (bytes : List ℕ) (k : ℕ) → (mend_answer bytes ≡ MendAnswer.Mended k) ↔ ((first : ℕ) × Answered bytes first k)
+pub mends_exactly : (bytes : List ℕ) (k : ℕ) → (mend_answer bytes ≡ Ok k) ↔ ((first : ℕ) × Answered bytes first k)
 mends_exactly bytes k = (λ e. (implied_first bytes, answered bytes k e), λ w. mends bytes w.0 k w.1)
 
 -- how many indices are noted at the most, that the answer is how many, and that they are the front of the lent list
@@ -82,7 +82,7 @@ pub record Noted (bytes list : List ℕ) (k : ℕ) : Type 0 where
   pub count : length (damaged bytes) ≡ k
   pub front : take k (after_notes bytes list) ≡ damaged bytes
 
-pub noted : (bytes list : List ℕ) (k : ℕ) → mend_answer bytes ≡ MendAnswer.Mended k → Noted bytes list k
+pub noted : (bytes list : List ℕ) (k : ℕ) → mend_answer bytes ≡ Ok k → Noted bytes list k
 unfolding list_after
 noted bytes list k e =
     let a = answered bytes k e in
@@ -97,8 +97,8 @@ pub notes_length : (bytes list : List ℕ) → most_blocks ≤ length list → l
 unfolding list_after
 notes_length bytes list room = go (mend_answer bytes) refl
   where
-    go : (a : MendAnswer) → mend_answer bytes ≡ a → length (list_after a bytes list) ≡ length list
-    go (MendAnswer.Mended k) q =
+    go : (a : Result ℕ Refusal) → mend_answer bytes ≡ a → length (list_after a bytes list) ≡ length list
+    go (Ok k) q =
         let o = noted bytes list k q in
         omega (arith, length-append (damaged bytes) (drop k list), length-drop k list, o.few, o.count)
-    go (MendAnswer.Refused e) q = refl
+    go (Err e) q = refl

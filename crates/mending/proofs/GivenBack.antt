@@ -1,5 +1,6 @@
 -- A volume that comes back scratched, and is given back as it was.
 -- Assumes nothing.
+use Rattle.std.specs.Prelude.{Ok}
 use mathlib.Core.Path.{◌≡◌, refl, sym, ap, ◌∙◌}
 use mathlib.Core.Logic.{◌⊎◌, inl, inr, ⊎_elim}
 use mathlib.Core.List.{List, ◌++◌}
@@ -17,14 +18,12 @@ use Rattle.blocks.proofs.Small.{block_bytes}
 use Rattle.blocks.proofs.Altered as blocks-altered
 use Rattle.volumes.specs.Volume.{block_at, block_in}
 use Rattle.volumes.specs.Reader.{block_count, read_answer}
-use Rattle.volumes.specs.declared.reader.ReadAnswer.{ReadAnswer}
 use Rattle.volumes.proofs.Runs.{part_length}
 use Rattle.volumes.proofs.Parts.{right_at}
 use Rattle.volumes.proofs.Altered.{one_place}
 use Rattle.volumes.proofs.Answered.{accepted}
 use Rattle.mending.specs.FirstYear.{year_in, sound, sound_at}
 use Rattle.mending.specs.Mended.{most_blocks, called_for, differing, mend_answer, after_mend, after_notes}
-use Rattle.mending.specs.declared.MendAnswer.{MendAnswer}
 use Rattle.mending.proofs.Implied.{Implied}
 use Rattle.mending.proofs.Answered.{Answered, mends, after_is, notes_are}
 use Rattle.mending.proofs.Listed.{Lists, lists, listed_by}
@@ -41,7 +40,7 @@ pub record Scratched (volume back : List ℕ) : Type 0 where
 pub record Told (volume back : List ℕ) : Type 0 where
   pub indices : List ℕ
   pub listed : Lists (λ i. same (block_in back i) (block_in volume i)) (block_count volume) indices
-  pub number : mend_answer back ≡ MendAnswer.Mended (length indices)
+  pub number : mend_answer back ≡ Ok (length indices)
   pub noted : (list : List ℕ) → after_notes back list ≡ indices ++ drop (length indices) list
 
 -- whether a block is left whole can be told
@@ -53,7 +52,7 @@ whole_or a b =
     (decide (same a b))
 
 -- an accepted volume of at most 1,024 blocks, and bytes of its length whose sound blocks imply its first year
-module _ (volume back : List ℕ) (first last : ℕ) (read : read_answer volume ≡ ReadAnswer.Years first last) (most : block_count volume ≤ most_blocks) (long : length back ≡ length volume) (implied : Implied back first) where
+module _ (volume back : List ℕ) (first last : ℕ) (read : read_answer volume ≡ Ok (first, last)) (most : block_count volume ≤ most_blocks) (long : length back ≡ length volume) (implied : Implied back first) where
   answer : Answered back first (length (differing back first (block_count back)))
   answer = record { whole = rw long (volume-kept.mendable_length volume first last read most); implied = implied; count = refl }
 
@@ -77,7 +76,7 @@ module _ (volume back : List ℕ) (first last : ℕ) (read : read_answer volume 
         noted = λ list. notes_are back first (length indices) answer list;
       }
 
-module _ (volume back : List ℕ) (first last : ℕ) (read : read_answer volume ≡ ReadAnswer.Years first last) (most : block_count volume ≤ most_blocks) (s : Scratched volume back) where
+module _ (volume back : List ℕ) (first last : ℕ) (read : read_answer volume ≡ Ok (first, last)) (most : block_count volume ≤ most_blocks) (s : Scratched volume back) where
   abbrev n : ℕ
   n = block_count volume
 
@@ -122,7 +121,7 @@ pub record OneByte (was is : List ℕ) : Type 0 where
   pub rest : (k : ℕ) → ¬ (k ≡ place) → get_or is k 0 ≡ get_or was k 0
 
 -- an accepted volume of at most 1,024 blocks, and bytes of its length
-module _ (volume back : List ℕ) (first last : ℕ) (read : read_answer volume ≡ ReadAnswer.Years first last) (most : block_count volume ≤ most_blocks) (long : length back ≡ length volume) where
+module _ (volume back : List ℕ) (first last : ℕ) (read : read_answer volume ≡ Ok (first, last)) (most : block_count volume ≤ most_blocks) (long : length back ≡ length volume) where
   -- ONE ALTERED BYTE OF A BLOCK MAKES IT UNSOUND
   pub unsound : (i : ℕ) → i < block_count volume → OneByte (block_in volume i) (block_in back i) → ¬ (T (sound_at back i))
   unfolding sound block_at
@@ -144,7 +143,7 @@ pub record SingleBytes (volume back : List ℕ) : Type 0 where
   pub errors : (i : ℕ) → i < block_count volume → ¬ (block_in back i ≡ block_in volume i) → OneByte (block_in volume i) (block_in back i)
 
 -- SUCH A VOLUME IS GIVEN BACK, whatever the altered bytes are and wherever they stand
-pub single_bytes_back : (volume back : List ℕ) (first last : ℕ) → read_answer volume ≡ ReadAnswer.Years first last → block_count volume ≤ most_blocks → SingleBytes volume back → after_mend back ≡ volume
+pub single_bytes_back : (volume back : List ℕ) (first last : ℕ) → read_answer volume ≡ Ok (first, last) → block_count volume ≤ most_blocks → SingleBytes volume back → after_mend back ≡ volume
 single_bytes_back volume back first last read most p =
     given_back volume back first last read most
     (record { long = p.long; whole = p.whole; unsound = λ i h x. unsound volume back first last read most p.long i h (p.errors i h x) })

@@ -1,5 +1,6 @@
 -- The reader accepts every mended volume, and a volume of at most 1,024 blocks that it accepts is mended by leaving it as it is.
 -- Assumes nothing.
+use Rattle.std.specs.Prelude.{Ok}
 use mathlib.Core.Path.{◌≡◌, refl, sym, ap, ◌∙◌}
 use mathlib.Core.List.{List, []}
 use Prim.Native.Nat.{ℕ, zero, suc, ◌+◌, ◌-◌, ◌/◌, ◌≤◌, ◌<◌}
@@ -15,14 +16,12 @@ use Rattle.blocks.proofs.Same.{same_refl}
 use Rattle.blocks.proofs.Values.{year_of_lem}
 use Rattle.volumes.specs.Volume.{Run, block_at, block_in}
 use Rattle.volumes.specs.Reader.{whole_blocks, block_count, read_answer}
-use Rattle.volumes.specs.declared.reader.ReadAnswer.{ReadAnswer}
 use Rattle.volumes.proofs.Runs.{year_in_lem, blocks_length}
 use Rattle.volumes.proofs.Parts.{block_in_lem, right_at}
 use Rattle.volumes.proofs.Answered.{Accepted, accepted}
 use Rattle.volumes.proofs.Undo.{read_volume}
 use Rattle.mending.specs.FirstYear.{year_in, sound, implied_first}
 use Rattle.mending.specs.Mended.{most_blocks, mendable, called_for, differing, mend_answer, after_mend, after_notes}
-use Rattle.mending.specs.declared.MendAnswer.{MendAnswer}
 use Rattle.mending.proofs.FirstYears.{length_of_lem}
 use Rattle.mending.proofs.Answered.{Answered, answered, mends, after_is, notes_are}
 
@@ -40,7 +39,7 @@ module _ (first i : ℕ) (run : Run first (first + i)) where
 
 -- THE READER ACCEPTS EVERY MENDED VOLUME, and answers the first year that the scratched volume's sound blocks implied, and the last of as many years as
 -- there are blocks
-pub mended_read : (bytes : List ℕ) (k : ℕ) → mend_answer bytes ≡ MendAnswer.Mended k → read_answer (after_mend bytes) ≡ ReadAnswer.Years (implied_first bytes) (implied_first bytes + block_count bytes - 1)
+pub mended_read : (bytes : List ℕ) (k : ℕ) → mend_answer bytes ≡ Ok k → read_answer (after_mend bytes) ≡ Ok ((implied_first bytes), (implied_first bytes + block_count bytes - 1))
 mended_read bytes k e =
     let a = answered bytes k e in
     ap read_answer (after_is bytes (implied_first bytes) k a) ∙ read_volume (implied_first bytes) (implied_first bytes + block_count bytes - 1) a.implied.run
@@ -53,7 +52,7 @@ none_differs bytes first (suc k) each =
     rw (none_differs bytes first k (λ i h. each i (omega arith)), each k (omega arith), T_true (same (block_at first k) (block_at first k)) (same_refl (block_at first k))) refl
 
 -- a volume that the reader accepts, of at most 1,024 blocks
-module _ (bytes : List ℕ) (first last : ℕ) (read : read_answer bytes ≡ ReadAnswer.Years first last) (most : block_count bytes ≤ most_blocks) where
+module _ (bytes : List ℕ) (first last : ℕ) (read : read_answer bytes ≡ Ok (first, last)) (most : block_count bytes ≤ most_blocks) where
   is : Accepted bytes first last
   is = accepted bytes first last read
 
@@ -84,7 +83,7 @@ module _ (bytes : List ℕ) (first last : ℕ) (read : read_answer bytes ≡ Rea
       }
 
   -- A VOLUME THAT THE READER ACCEPTS IS ANSWERED WITH NO INDEX
-  pub none_damaged : mend_answer bytes ≡ MendAnswer.Mended 0
+  pub none_damaged : mend_answer bytes ≡ Ok 0
   none_damaged = mends bytes first 0 answer
 
   -- THE SAME BYTES
@@ -96,7 +95,7 @@ module _ (bytes : List ℕ) (first last : ℕ) (read : read_answer bytes ≡ Rea
   list_kept list = notes_are bytes first 0 answer list ∙ rw (none_differs bytes first (block_count bytes) own) refl
 
 -- MENDING A MENDED VOLUME AGAIN FINDS NOTHING AND CHANGES NOTHING
-module _ (bytes : List ℕ) (k : ℕ) (e : mend_answer bytes ≡ MendAnswer.Mended k) where
+module _ (bytes : List ℕ) (k : ℕ) (e : mend_answer bytes ≡ Ok k) where
   few : block_count (after_mend bytes) ≤ most_blocks
   few =
       let a = answered bytes k e in
@@ -105,7 +104,7 @@ module _ (bytes : List ℕ) (k : ℕ) (e : mend_answer bytes ≡ MendAnswer.Mend
       let l = length_of_lem (length bytes) a.whole in
       rw (after_is bytes f k a) (omega (arith, l, blocks_length f (f + n - 1 + 1 - f)))
 
-  pub again : mend_answer (after_mend bytes) ≡ MendAnswer.Mended 0
+  pub again : mend_answer (after_mend bytes) ≡ Ok 0
   again = none_damaged (after_mend bytes) (implied_first bytes) (implied_first bytes + block_count bytes - 1) (mended_read bytes k e) few
 
   pub again_kept : after_mend (after_mend bytes) ≡ after_mend bytes

@@ -1,14 +1,12 @@
 -- Mending a scratched volume (02 §8).
 -- Assumes nothing.
-use Rattle.std.specs.Prelude.{Bool, ◌&&◌, List, [], ◌∷◌, ◌++◌, ℕ, zero, suc, ◌/◌, leb, length, drop}
+use Rattle.std.specs.Prelude.{Result, Ok, Err, Bool, ◌&&◌, List, [], ◌∷◌, ◌++◌, ℕ, zero, suc, ◌/◌, leb, length, drop}
 use Rattle.reckoning.specs.Search.{pick}
-use Rattle.refusal.specs.Numbers.{number_of}
 use Rattle.refusal.specs.declared.Refusal.{Refusal}
 use Rattle.blocks.specs.Bytes.{same}
 use Rattle.volumes.specs.Volume.{block_at, block_in}
 use Rattle.volumes.specs.Reader.{whole_blocks, block_count}
 use Rattle.mending.specs.FirstYear.{implied_first, known}
-use Rattle.mending.specs.declared.MendAnswer.{MendAnswer}
 
 -- how many blocks a volume to be mended has at the most
 abbrev pub most_blocks : ℕ
@@ -41,20 +39,20 @@ mended bytes = afresh bytes (implied_first bytes) (block_count bytes)
 
 -- how many blocks are damaged: refused under 11 where the bytes are no whole number of blocks, none, or more than 1,024, then under 13 where no first
 -- year is known
-unfoldable pub mend_answer : List ℕ → MendAnswer
+unfoldable pub mend_answer : List ℕ → Result ℕ Refusal
 mend_answer bytes =
     pick (mendable (length bytes))
-    (pick (known bytes) (MendAnswer.Mended (length (damaged bytes))) (MendAnswer.Refused Refusal.FirstYear))
-    (MendAnswer.Refused Refusal.Volume)
+    (pick (known bytes) (Ok (length (damaged bytes))) (Err Refusal.FirstYear))
+    (Err Refusal.Volume)
 
 -- the volume afterwards, and the lent list, which has 1,024 numbers: the indices at its front, and the rest as it was; refused, both as they were
-unfoldable pub volume_after : MendAnswer → List ℕ → List ℕ
-volume_after (MendAnswer.Mended k) bytes = mended bytes
-volume_after (MendAnswer.Refused e) bytes = bytes
+unfoldable pub volume_after : Result ℕ Refusal → List ℕ → List ℕ
+volume_after (Ok k) bytes = mended bytes
+volume_after (Err e) bytes = bytes
 
-unfoldable pub list_after : MendAnswer → List ℕ → List ℕ → List ℕ
-list_after (MendAnswer.Mended k) bytes list = damaged bytes ++ drop k list
-list_after (MendAnswer.Refused e) bytes list = list
+unfoldable pub list_after : Result ℕ Refusal → List ℕ → List ℕ → List ℕ
+list_after (Ok k) bytes list = damaged bytes ++ drop k list
+list_after (Err e) bytes list = list
 
 abbrev pub after_mend : List ℕ → List ℕ
 after_mend bytes = volume_after (mend_answer bytes) bytes
@@ -62,11 +60,3 @@ after_mend bytes = volume_after (mend_answer bytes) bytes
 abbrev pub after_notes : List ℕ → List ℕ → List ℕ
 after_notes bytes list = list_after (mend_answer bytes) bytes list
 
--- the number of an answer, and the count of blocks, 0 where it is refused
-abbrev pub mend_number : MendAnswer → ℕ
-mend_number (MendAnswer.Mended k) = 0
-mend_number (MendAnswer.Refused e) = number_of e
-
-abbrev pub mend_count : MendAnswer → ℕ
-mend_count (MendAnswer.Mended k) = k
-mend_count (MendAnswer.Refused e) = 0

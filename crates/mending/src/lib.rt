@@ -7,41 +7,13 @@ ghost use Rattle.units.specs.Xinghe.{round_years};
 ghost use Rattle.blocks.specs.Bytes.{same};
 ghost use Rattle.volumes.specs.Volume.{is_run, block_at};
 ghost use Rattle.mending.specs.FirstYear.{year_in, sound, sound_at, implied_at, implies_at};
-ghost use Rattle.mending.specs.Mended.{most_blocks, mendable, differing, afresh, mend_answer, after_mend, after_notes, mend_number, mend_count};
+ghost use Rattle.mending.specs.Mended.{most_blocks, mendable, differing, afresh, mend_answer, after_mend, after_notes};
 
 use blocks::{BLOCK, bytes};
 use refusal::Refusal;
 
 // How many blocks a volume to be mended has at the most.
 pub const MOST_BLOCKS: usize = 1024;
-
-// How many blocks were written afresh.
-#[derive(Clone, Copy)]
-pub enum MendAnswer {
-    Mended(u64),
-    Refused(Refusal),
-}
-
-impl MendAnswer {
-    pub fn number(self) -> u64
-        ensures { result ≡ mend_number self }
-    {
-        match self {
-            MendAnswer::Mended(_) => 0,
-            MendAnswer::Refused(e) => e.number(),
-        }
-    }
-
-    // The count of blocks, 0 where the job is refused.
-    pub fn count(self) -> u64
-        ensures { result ≡ mend_count self }
-    {
-        match self {
-            MendAnswer::Mended(n) => n,
-            MendAnswer::Refused(_) => 0,
-        }
-    }
-}
 
 fn is_mendable(bytes: usize) -> bool
     ensures { result ≡ mendable bytes }
@@ -171,17 +143,17 @@ fn mend_blocks(volume: &mut [u8], list: &mut [u64], first: u64, n: usize) -> usi
 
 // Each block that differs from what its year and the first year call for is written afresh, and its index is stored at the front of the lent list, the
 // rest of which stays. Refused, nothing is written.
-pub fn mend(volume: &mut [u8], list: &mut [u64; MOST_BLOCKS]) -> MendAnswer
+pub fn mend(volume: &mut [u8], list: &mut [u64; MOST_BLOCKS]) -> Result<u64, Refusal>
     ensures { (result ≡ mend_answer volume.old) × (volume.new ≡ after_mend volume.old) × (list.new ≡ after_notes volume.old list.old) }
 {
     if !is_mendable(volume.len()) {
-        return MendAnswer::Refused(Refusal::Volume);
+        return Err(Refusal::Volume);
     }
     let n = volume.len() / BLOCK;
     let first = implied_first(volume, n);
     if !is_first(volume, first, n) {
-        return MendAnswer::Refused(Refusal::FirstYear);
+        return Err(Refusal::FirstYear);
     }
     let count = mend_blocks(volume, list, first, n);
-    MendAnswer::Mended(count as u64)
+    Ok(count as u64)
 }

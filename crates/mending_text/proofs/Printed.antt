@@ -1,5 +1,6 @@
 -- What the mending program prints, and how much of its input it needs.
 -- Assumes nothing.
+use Rattle.std.specs.Prelude.{Result, Ok, Err}
 use mathlib.Core.Path.{◌≡◌, refl, sym, ap, ◌∙◌}
 use mathlib.Core.Logic.{⊎_elim}
 use mathlib.Core.Bool.{false}
@@ -14,9 +15,7 @@ use Rattle.writing.specs.Written.{after_text, texts}
 use Rattle.year_text.specs.Decimal.{decimal_up_to}
 use Rattle.year_text.specs.Text.{refusal_line}
 use Rattle.volumes.specs.Reader.{block_count, read_answer}
-use Rattle.volumes.specs.declared.reader.ReadAnswer.{ReadAnswer}
 use Rattle.mending.specs.Mended.{most_blocks, mendable, damaged, mend_answer, volume_after, after_mend}
-use Rattle.mending.specs.declared.MendAnswer.{MendAnswer}
 use Rattle.mending.proofs.FirstYears.{length_of_lem}
 use Rattle.mending.proofs.Answered.{noted}
 use Rattle.mending.proofs.Kept.{none_damaged, kept}
@@ -28,9 +27,9 @@ volume_front : (bytes : List ℕ) → take (length (printed_volume bytes)) (afte
 unfolding volume_for volume_after
 volume_front bytes = go (mend_answer bytes)
   where
-    go : (a : MendAnswer) → take (length (volume_for a bytes)) (volume_after a bytes) ≡ volume_for a bytes
-    go (MendAnswer.Mended k) = take_all (length (volume_for (MendAnswer.Mended k) bytes)) (volume_for (MendAnswer.Mended k) bytes) (omega arith)
-    go (MendAnswer.Refused e) = refl
+    go : (a : Result ℕ Refusal) → take (length (volume_for a bytes)) (volume_after a bytes) ≡ volume_for a bytes
+    go (Ok k) = take_all (length (volume_for (Ok k) bytes)) (volume_for (Ok k) bytes) (omega arith)
+    go (Err e) = refl
 
 pub volume_fits : (bytes : List ℕ) → length (printed_volume bytes) ≤ length (after_mend bytes)
 volume_fits bytes = omega (arith, length-take (length (printed_volume bytes)) (after_mend bytes), ap length (volume_front bytes))
@@ -56,12 +55,12 @@ enough input =
     (le_or_lt (length input) (512 * most_blocks + 1))
 
 -- A REFUSAL IS PRINTED ALONE
-pub refusal_alone : (bytes : List ℕ) (e : Refusal) → mend_answer bytes ≡ MendAnswer.Refused e → printed bytes ≡ refusal_line e
+pub refusal_alone : (bytes : List ℕ) (e : Refusal) → mend_answer bytes ≡ Err e → printed bytes ≡ refusal_line e
 unfolding lines_for volume_for
 refusal_alone bytes e q = rw q (append-nil (refusal_line e))
 
 -- a mended volume comes after the indices of its damaged blocks and their number
-mended_printed : (bytes : List ℕ) (k : ℕ) → mend_answer bytes ≡ MendAnswer.Mended k → printed bytes ≡ (texts number_line (damaged bytes) ++ number_line k) ++ after_mend bytes
+mended_printed : (bytes : List ℕ) (k : ℕ) → mend_answer bytes ≡ Ok k → printed bytes ≡ (texts number_line (damaged bytes) ++ number_line k) ++ after_mend bytes
 unfolding lines_for volume_for volume_after
 mended_printed bytes k q = rw q refl
 
@@ -70,7 +69,7 @@ no_length [] e = refl
 no_length (x ∷ xs) e = absurd (omega arith)
 
 -- OF A VOLUME THAT THE READER ACCEPTS, of at most 1,024 blocks, `0`, a newline and the same bytes are printed
-pub kept_printed : (bytes : List ℕ) (first last : ℕ) → read_answer bytes ≡ ReadAnswer.Years first last → block_count bytes ≤ most_blocks → printed bytes ≡ 48 ∷ 10 ∷ bytes
+pub kept_printed : (bytes : List ℕ) (first last : ℕ) → read_answer bytes ≡ Ok (first, last) → block_count bytes ≤ most_blocks → printed bytes ≡ 48 ∷ 10 ∷ bytes
 unfolding texts decimal_up_to
 kept_printed bytes first last read most =
     let none = none_damaged bytes first last read most in
@@ -78,7 +77,7 @@ kept_printed bytes first last read most =
 
 -- OF ONE THAT CAME BACK SCRATCHED, with at least one block whole and no damaged one sound: the indices of the damaged blocks, ascending and each once,
 -- their number, and the volume as it was
-pub back_printed : (volume back : List ℕ) (first last : ℕ) (read : read_answer volume ≡ ReadAnswer.Years first last) (most : block_count volume ≤ most_blocks) (s : Scratched volume back) → (let t = told volume back first last read most s in printed back ≡ (texts number_line t.indices ++ number_line (length t.indices)) ++ volume)
+pub back_printed : (volume back : List ℕ) (first last : ℕ) (read : read_answer volume ≡ Ok (first, last)) (most : block_count volume ≤ most_blocks) (s : Scratched volume back) → (let t = told volume back first last read most s in printed back ≡ (texts number_line t.indices ++ number_line (length t.indices)) ++ volume)
 back_printed volume back first last read most s =
     let t = told volume back first last read most s in
     let k : ℕ = length t.indices in

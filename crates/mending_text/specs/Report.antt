@@ -1,11 +1,11 @@
 -- What the mending program prints (02 §8): the index of each damaged block, then their number, one a line, then the mended volume; or `refused` and
 -- the number, alone.
 -- Assumes nothing.
-use Rattle.std.specs.Prelude.{List, [], ◌++◌, ℕ, length}
+use Rattle.std.specs.Prelude.{Result, Ok, Err, List, [], ◌++◌, ℕ, length}
+use Rattle.refusal.specs.declared.Refusal.{Refusal}
 use Rattle.writing.specs.Written.{texts}
 use Rattle.year_text.specs.Text.{field, refusal_line}
 use Rattle.mending.specs.Mended.{damaged, mended, mend_answer}
-use Rattle.mending.specs.declared.MendAnswer.{MendAnswer}
 use Rattle.mending_text.specs.declared.Report.{Report}
 
 -- a number on a line of its own
@@ -13,14 +13,14 @@ abbrev pub number_line : ℕ → List ℕ
 number_line n = field n 10
 
 -- the lines: the indices and their number, or the refusal
-unfoldable pub lines_for : MendAnswer → List ℕ → List ℕ
-lines_for (MendAnswer.Mended k) bytes = texts number_line (damaged bytes) ++ number_line k
-lines_for (MendAnswer.Refused e) bytes = refusal_line e
+unfoldable pub lines_for : Result ℕ Refusal → List ℕ → List ℕ
+lines_for (Ok k) bytes = texts number_line (damaged bytes) ++ number_line k
+lines_for (Err e) bytes = refusal_line e
 
 -- the volume after them: the mended one, or nothing
-unfoldable pub volume_for : MendAnswer → List ℕ → List ℕ
-volume_for (MendAnswer.Mended k) bytes = mended bytes
-volume_for (MendAnswer.Refused e) bytes = []
+unfoldable pub volume_for : Result ℕ Refusal → List ℕ → List ℕ
+volume_for (Ok k) bytes = mended bytes
+volume_for (Err e) bytes = []
 
 abbrev pub printed_lines : List ℕ → List ℕ
 printed_lines bytes = lines_for (mend_answer bytes) bytes

@@ -6,7 +6,7 @@ ghost use Rattle.writing.specs.Written.{Wrote, after_text, texts};
 ghost use Rattle.mending.specs.Mended.{after_mend};
 ghost use Rattle.mending_text.specs.Report.{number_line, printed_lines, report_of};
 
-use mending::{MOST_BLOCKS, MendAnswer};
+use mending::MOST_BLOCKS;
 use year_text::writer::{put_field, put_refusal};
 
 // How many bytes a number and the end of its line take at the most.
@@ -42,7 +42,7 @@ pub fn render(volume: &mut [u8], lines: &mut [u8; LINES]) -> Report
 {
     let mut list = [0u64; MOST_BLOCKS];
     match mending::mend(volume, &mut list) {
-        MendAnswer::Mended(n) => {
+        Ok(n) => {
             let count = n as usize;
             let end = put_numbers(lines, &list[..count]);
             let all = put_field(lines, end, n, 10);
@@ -51,7 +51,7 @@ pub fn render(volume: &mut [u8], lines: &mut [u8; LINES]) -> Report
                 volume: volume.len(),
             }
         }
-        MendAnswer::Refused(e) => {
+        Err(e) => {
             let all = put_refusal(lines, 0, e);
             Report {
                 text: all,

@@ -1,5 +1,7 @@
 -- What follows of labels (02 §3): their numbers, whose list is taken, their bytes, and that the sixty names are the list.
 -- Assumes nothing.
+use Rattle.std.specs.Prelude.{Result, Ok, Err}
+use Rattle.refusal.specs.Numbers.{answer_number}
 use mathlib.Core.Path.{◌≡◌, refl, ap, ◌∙◌}
 use mathlib.Core.Logic.{◌⊎◌, ⊎_elim}
 use mathlib.Core.List.{flatten}
@@ -13,9 +15,8 @@ use Rattle.reckoning.proofs.Searches.{between_T, between_low, through, list_same
 use Rattle.refusal.specs.declared.Refusal.{Refusal}
 use Rattle.lunisolar.specs.Sixty.{sixty, sexagenary_of}
 use Rattle.lunisolar.proofs.Sexagenary.{sexagenary_low, sexagenary_high}
-use Rattle.names.specs.Names.{name_bytes, list_bytes, Bytes, size, slice, is_list, in_sixty, name_at, location_for, location_number, name_from, label_of, label_number}
+use Rattle.names.specs.Names.{name_bytes, list_bytes, Bytes, size, slice, is_list, in_sixty, name_at, location_for, name_from, label_of, label_number}
 use Rattle.names.specs.declared.Whose.{Whose}
-use Rattle.names.specs.declared.LocationAnswer.{LocationAnswer}
 use Rattle.names.proofs.Locations.{location_cases, name_in_list}
 use Rattle.names.proofs.Chunks.{joined}
 
@@ -28,12 +29,12 @@ module _ (i : ℕ) (theirs house : Bytes) where
   pub label_numbers : label_number i theirs house ≡ pick (in_sixty i) (pick (is_list (size theirs)) 0 (pick (is_list (size house)) 0 10)) 3
   unfolding location_for
   label_numbers =
-      let in-house : LocationAnswer = LocationAnswer.Answered (name_at Whose.House i) in
-      let neither : LocationAnswer = LocationAnswer.Refused Refusal.Names in
-      through location_number (in_sixty i) _ _
+      let in-house : Result NameLocation Refusal = Ok (name_at Whose.House i) in
+      let neither : Result NameLocation Refusal = Err Refusal.Names in
+      through answer_number (in_sixty i) _ _
       ∙ ap (λ (x : ℕ). pick (in_sixty i) x 3)
-      (through location_number (is_list (size theirs)) _ _
-      ∙ ap (λ (x : ℕ). pick (is_list (size theirs)) 0 x) (through location_number (is_list (size house)) in-house neither))
+      (through answer_number (is_list (size theirs)) _ _
+      ∙ ap (λ (x : ℕ). pick (is_list (size theirs)) 0 x) (through answer_number (is_list (size house)) in-house neither))
 
   -- a name ends where the next begins
   ends : T (in_sixty i) → name_bytes * (i - 1) + name_bytes ≡ name_bytes * i
@@ -60,7 +61,7 @@ module _ (i : ℕ) (theirs house : Bytes) where
   -- THE NUMBER IS 0 EXACTLY WHEN THE PART HAS SIX BYTES
   pub six_of_0 : label_number i theirs house ≡ 0 → size (label_of i theirs house) ≡ name_bytes
   six_of_0 =
-      location_cases i (size theirs) (size house) (λ a. location_number a ≡ 0 → size (name_from a theirs house) ≡ name_bytes)
+      location_cases i (size theirs) (size house) (λ a. answer_number a ≡ 0 → size (name_from a theirs house) ≡ name_bytes)
       (λ d e _. six theirs d e)
       (λ d _ e _. six house d e)
       (λ _ _ _ q. absurd (omega (arith, q)))
@@ -74,7 +75,7 @@ module _ (i : ℕ) (theirs house : Bytes) where
 
   pub 0-of-six : size (label_of i theirs house) ≡ name_bytes → label_number i theirs house ≡ 0
   0-of-six =
-      location_cases i (size theirs) (size house) (λ a. size (name_from a theirs house) ≡ name_bytes → location_number a ≡ 0)
+      location_cases i (size theirs) (size house) (λ a. size (name_from a theirs house) ≡ name_bytes → answer_number a ≡ 0)
       (λ _ _ _. refl)
       (λ _ _ _ _. refl)
       (λ _ _ _ q. absurd (omega (arith, q)))
@@ -83,7 +84,7 @@ module _ (i : ℕ) (theirs house : Bytes) where
   -- REFUSED, THE PART IS EMPTY, AT THE BEGINNING OF THEIRS
   pub refused_empty : ¬ (label_number i theirs house ≡ 0) → label_of i theirs house ≡ slice theirs 0 0
   refused_empty =
-      location_cases i (size theirs) (size house) (λ a. ¬ (location_number a ≡ 0) → name_from a theirs house ≡ slice theirs 0 0)
+      location_cases i (size theirs) (size house) (λ a. ¬ (answer_number a ≡ 0) → name_from a theirs house ≡ slice theirs 0 0)
       (λ _ _ n. absurd (n refl))
       (λ _ _ _ n. absurd (n refl))
       (λ _ _ _ _. refl)
@@ -123,7 +124,7 @@ day_in_sixty d = between_T 1 (sexagenary_of d) (suc sixty) (sexagenary_low d) (o
 -- EVERY DAY OF THE CALENDAR HAS A LABEL WHERE ONE OF THE LISTS IS 360 BYTES
 pub day_named : (d : ℕ) (theirs house : Bytes) → (size theirs ≡ list_bytes) ⊎ (size house ≡ list_bytes) → label_number (sexagenary_of d) theirs house ≡ 0
 day_named d theirs house either =
-    location_cases (sexagenary_of d) (size theirs) (size house) (λ a. location_number a ≡ 0)
+    location_cases (sexagenary_of d) (size theirs) (size house) (λ a. answer_number a ≡ 0)
     (λ _ _. refl)
     (λ _ _ _. refl)
     (λ _ n m. absurd (⊎_elim n m either))

@@ -1,5 +1,6 @@
 -- Where a name is found (02 §3), case by case.
 -- Assumes nothing.
+use Rattle.std.specs.Prelude.{Result, Ok, Err}
 use mathlib.Core.Path.{◌≡◌}
 use Prim.Native.Nat.{ℕ, suc, ◌+◌, ◌-◌, ◌*◌, ◌≤◌}
 use native.Mathlib.Omega.{arith}
@@ -9,15 +10,14 @@ use Rattle.refusal.specs.declared.Refusal.{Refusal}
 use Rattle.lunisolar.specs.Sixty.{sixty}
 use Rattle.names.specs.Names.{name_bytes, list_bytes, Bytes, size, is_list, in_sixty, name_at, location_for, list_of, label_location}
 use Rattle.names.specs.declared.Whose.{Whose}
-use Rattle.names.specs.declared.LocationAnswer.{LocationAnswer}
 
 -- what holds in each of the four cases holds of the answer
-module _ (i t h : ℕ) (P : LocationAnswer → Type 0) where
+module _ (i t h : ℕ) (P : Result NameLocation Refusal → Type 0) where
   pub location_cases :
-      (T (in_sixty i) → t ≡ list_bytes → P (LocationAnswer.Answered (name_at Whose.Theirs i)))
-      → (T (in_sixty i) → ¬ (t ≡ list_bytes) → h ≡ list_bytes → P (LocationAnswer.Answered (name_at Whose.House i)))
-      → (T (in_sixty i) → ¬ (t ≡ list_bytes) → ¬ (h ≡ list_bytes) → P (LocationAnswer.Refused Refusal.Names))
-      → (¬ (T (in_sixty i)) → P (LocationAnswer.Refused Refusal.DayOfSixty))
+      (T (in_sixty i) → t ≡ list_bytes → P (Ok (name_at Whose.Theirs i)))
+      → (T (in_sixty i) → ¬ (t ≡ list_bytes) → h ≡ list_bytes → P (Ok (name_at Whose.House i)))
+      → (T (in_sixty i) → ¬ (t ≡ list_bytes) → ¬ (h ≡ list_bytes) → P (Err Refusal.Names))
+      → (¬ (T (in_sixty i)) → P (Err Refusal.DayOfSixty))
       → P (location_for i t h)
   unfolding location_for
   location_cases theirs house names day =
@@ -37,9 +37,9 @@ pub name_in_list : (i : ℕ) → T (in_sixty i) → name_bytes * (i - 1) + name_
 name_in_list i d = omega (arith, between_low 1 i (suc sixty) d, between_high 1 i (suc sixty) d)
 
 -- a name's location is in a list of 360 bytes, and its six bytes lie in that list
-abbrev pub Fits : LocationAnswer → Bytes → Bytes → Type 0
-Fits (LocationAnswer.Answered location) theirs house = (location.from + name_bytes ≤ list_bytes) × (size (list_of location.whose theirs house) ≡ list_bytes)
-Fits (LocationAnswer.Refused e) theirs house = Unit {0}
+abbrev pub Fits : Result NameLocation Refusal → Bytes → Bytes → Type 0
+Fits (Ok location) theirs house = (location.from + name_bytes ≤ list_bytes) × (size (list_of location.whose theirs house) ≡ list_bytes)
+Fits (Err e) theirs house = Unit {0}
 
 -- EVERY ANSWERED LOCATION HAS ITS SIX BYTES IN A LIST OF 360 BYTES
 pub location_fits : (i : ℕ) (theirs house : Bytes) → Fits (label_location i theirs house) theirs house

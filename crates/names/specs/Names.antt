@@ -1,14 +1,13 @@
 -- Day names (02 §3): the label of a day of the sixty from one of two lent lists of names, theirs and the house's.
 -- Assumes nothing.
-use Rattle.std.specs.Prelude.{Bool, List, ℕ, suc, ◌+◌, ◌-◌, ◌*◌, eqb, length, take, drop}
+use Rattle.std.specs.Prelude.{Result, Ok, Err, Bool, List, ℕ, suc, ◌+◌, ◌-◌, ◌*◌, eqb, length, take, drop}
 use Rattle.std.specs.Borrow.{Bor}
 use Rattle.reckoning.specs.Search.{pick, between}
-use Rattle.refusal.specs.Numbers.{number_of}
+use Rattle.refusal.specs.Numbers.{answer_number}
 use Rattle.refusal.specs.declared.Refusal.{Refusal}
 use Rattle.lunisolar.specs.Sixty.{sixty}
 use Rattle.names.specs.declared.Whose.{Whose}
 use Rattle.names.specs.declared.NameLocation.{NameLocation}
-use Rattle.names.specs.declared.LocationAnswer.{LocationAnswer}
 
 -- a name is six bytes, and a list is sixty names
 abbrev pub name_bytes : ℕ
@@ -49,16 +48,11 @@ name_at whose i = record { whose = whose; from = name_bytes * (i - 1) }
 
 -- where the name of day i is found, by the sizes of the two lists: in theirs if that list is exactly 360 bytes, in the house's otherwise.
 -- Refused under 3 for a day outside 1 to 60, then under 10 if neither list is 360 bytes
-unfoldable pub location_for : ℕ → ℕ → ℕ → LocationAnswer
+unfoldable pub location_for : ℕ → ℕ → ℕ → Result NameLocation Refusal
 location_for i theirSize houseSize =
     pick (in_sixty i)
-    (pick (is_list theirSize) (LocationAnswer.Answered (name_at Whose.Theirs i)) (pick (is_list houseSize) (LocationAnswer.Answered (name_at Whose.House i)) (LocationAnswer.Refused Refusal.Names)))
-    (LocationAnswer.Refused Refusal.DayOfSixty)
-
--- the number of such an answer, 0 where the name is found
-abbrev pub location_number : LocationAnswer → ℕ
-location_number (LocationAnswer.Answered location) = 0
-location_number (LocationAnswer.Refused e) = number_of e
+    (pick (is_list theirSize) (Ok (name_at Whose.Theirs i)) (pick (is_list houseSize) (Ok (name_at Whose.House i)) (Err Refusal.Names)))
+    (Err Refusal.DayOfSixty)
 
 -- somebody's list
 abbrev pub list_of : Whose → Bytes → Bytes → Bytes
@@ -71,16 +65,16 @@ whose_number Whose.Theirs = 1
 whose_number Whose.House = 2
 
 -- the name that is found there; refused, the empty part at the beginning of theirs
-abbrev pub name_from : LocationAnswer → Bytes → Bytes → Bytes
-name_from (LocationAnswer.Answered location) theirs house = slice (list_of location.whose theirs house) location.from (location.from + name_bytes)
-name_from (LocationAnswer.Refused e) theirs house = slice theirs 0 0
+abbrev pub name_from : Result NameLocation Refusal → Bytes → Bytes → Bytes
+name_from (Ok location) theirs house = slice (list_of location.whose theirs house) location.from (location.from + name_bytes)
+name_from (Err e) theirs house = slice theirs 0 0
 
 -- where the label of day i is found in two lists, the label, and its number, which is a call of its own
-abbrev pub label_location : ℕ → Bytes → Bytes → LocationAnswer
+abbrev pub label_location : ℕ → Bytes → Bytes → Result NameLocation Refusal
 label_location i theirs house = location_for i (size theirs) (size house)
 
 abbrev pub label_of : ℕ → Bytes → Bytes → Bytes
 label_of i theirs house = name_from (label_location i theirs house) theirs house
 
 abbrev pub label_number : ℕ → Bytes → Bytes → ℕ
-label_number i theirs house = location_number (label_location i theirs house)
+label_number i theirs house = answer_number (label_location i theirs house)

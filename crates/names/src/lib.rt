@@ -2,7 +2,7 @@
 #![tactic(auto)]
 
 ghost use Rattle.std.specs.Prelude.{◌≡◌};
-ghost use Rattle.names.specs.Names.{bytes_of, whose_number, location_for, location_number, label_number, label_of};
+ghost use Rattle.names.specs.Names.{bytes_of, whose_number, location_for, label_number, label_of};
 
 use refusal::Refusal;
 
@@ -27,12 +27,6 @@ pub struct NameLocation {
     pub from: usize,
 }
 
-#[derive(Clone, Copy)]
-pub enum LocationAnswer {
-    Answered(NameLocation),
-    Refused(Refusal),
-}
-
 impl Whose {
     pub fn number(self) -> u64
         ensures { result ≡ whose_number self }
@@ -44,41 +38,30 @@ impl Whose {
     }
 }
 
-impl LocationAnswer {
-    pub fn number(self) -> u64
-        ensures { result ≡ location_number self }
-    {
-        match self {
-            LocationAnswer::Answered(_) => 0,
-            LocationAnswer::Refused(e) => e.number(),
-        }
-    }
-}
-
 // Where the name of a day of the sixty is found, by the sizes of both lists, theirs and the house's. No byte of them is looked at.
-pub fn label_location(day: u64, theirs: usize, house: usize) -> LocationAnswer
+pub fn label_location(day: u64, theirs: usize, house: usize) -> Result<NameLocation, Refusal>
     ensures { result ≡ location_for day theirs house }
 {
     if day < 1 {
-        return LocationAnswer::Refused(Refusal::DayOfSixty);
+        return Err(Refusal::DayOfSixty);
     }
     if lunisolar::sixty::SIXTY < day {
-        return LocationAnswer::Refused(Refusal::DayOfSixty);
+        return Err(Refusal::DayOfSixty);
     }
     let from = NAME * (day - 1) as usize;
     if theirs == LIST {
-        return LocationAnswer::Answered(NameLocation {
+        return Ok(NameLocation {
             whose: Whose::Theirs,
             from,
         });
     }
     if house == LIST {
-        return LocationAnswer::Answered(NameLocation {
+        return Ok(NameLocation {
             whose: Whose::House,
             from,
         });
     }
-    LocationAnswer::Refused(Refusal::Names)
+    Err(Refusal::Names)
 }
 
 // The name of a day of the sixty, in theirs if that is a list of sixty names, else in the house's; refused, an empty part of theirs.
@@ -86,7 +69,7 @@ pub fn label<'a>(day: u64, theirs: &'a [u8], house: &'a [u8]) -> &'a [u8]
     ensures { bytes_of result ≡ label_of day (bytes_of theirs.entry) (bytes_of house.entry) }
 {
     match label_location(day, theirs.len(), house.len()) {
-        LocationAnswer::Answered(location) => {
+        Ok(location) => {
             let from = location.from;
             let whose = location.whose;
             match whose {
@@ -94,7 +77,7 @@ pub fn label<'a>(day: u64, theirs: &'a [u8], house: &'a [u8]) -> &'a [u8]
                 Whose::House => &house[from..from + NAME],
             }
         }
-        LocationAnswer::Refused(_) => &theirs[0..0],
+        Err(_) => &theirs[0..0],
     }
 }
 

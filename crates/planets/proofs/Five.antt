@@ -1,5 +1,8 @@
 -- The five planets: what the law asks of a number holds of each, so the law does, and the answers show it in their own figures.
 -- Assumes nothing.
+use Rattle.std.specs.Prelude.{Ok}
+use Rattle.refusal.specs.Numbers.{answer_number}
+use Rattle.std.specs.Result.{result_unwrap_or}
 use mathlib.Core.Path.{◌≡◌, ◌∙◌, refl, ap}
 use mathlib.Core.Bool.{true, false}
 use Prim.Native.Nat.{ℕ, suc, ◌+◌, ◌-◌, ◌*◌, ◌%◌, ◌<◌}
@@ -10,13 +13,12 @@ use Rattle.units.specs.Xinghe.{P, D, is_year}
 use Rattle.units.proofs.Years.{of_year}
 use Rattle.sun.specs.Solstices.{solstice_of}
 use Rattle.planets.specs.declared.Apparition.{Apparition}
-use Rattle.planets.specs.declared.ConjunctionsAnswer.{ConjunctionsAnswer}
 use Rattle.planets.specs.declared.synodic.Planet.{Planet}
 use Rattle.planets.specs.declared.synodic.ConjunctionParts.{ConjunctionParts}
 use Rattle.planets.specs.Conjunctions.{rest, remaining, takes_half, less_half, kind_from, time, kind, conjunction_of, turned, interval, following}
 use Rattle.planets.specs.Law.{kind_at, ordinal, OfYear}
 use Rattle.planets.specs.Planets.{SoundPlanet, mercury, is_planet, planet_of}
-use Rattle.planets.specs.Answers.{in_days, shown, conjunctions_of, conjunctions_number, conjunctions_values}
+use Rattle.planets.specs.Answers.{in_days, shown, conjunctions_of, zero_conjunctions}
 use Rattle.planets.specs.Jobs.{conjunctions_in, conjunctions_for, conjunctions_at}
 use Rattle.planets.specs.Shown.{parts_of, Shows, ShowsYear}
 use Rattle.planets.proofs.Cases.{each_planet}
@@ -71,15 +73,15 @@ shows_year k s y =
     }
 
 -- every year of the round and every planet is answered
-answered : (n p : ℕ) → T (is_year n) → T (is_planet p) → conjunctions_at n p ≡ ConjunctionsAnswer.Answered (conjunctions_of (planet_of p) (n - 1))
+answered : (n p : ℕ) → T (is_year n) → T (is_planet p) → conjunctions_at n p ≡ Ok (conjunctions_of (planet_of p) (n - 1))
 unfolding conjunctions_for conjunctions_in
 answered n p h k = of_year (λ a. conjunctions_for a p) n ∙ rw (T_true (is_year n) h, T_true (is_planet p) k)
 
 -- THE JOB, in year n of the round and of planet p: answered, by the law, in its own figures
 pub record Promise (n p : ℕ) : Type 0 where
-  pub number : conjunctions_number (conjunctions_at n p) ≡ 0
+  pub number : answer_number (conjunctions_at n p) ≡ 0
   pub law : OfYear P (planet_of p).period (planet_of p).halved (n - 1)
-  pub shows : ShowsYear (planet_of p) (n - 1) (conjunctions_values (conjunctions_at n p))
+  pub shows : ShowsYear (planet_of p) (n - 1) (result_unwrap_or (conjunctions_at n p) zero_conjunctions)
 
 pub conjunctions_promise : (n p : ℕ) → T (is_year n) → T (is_planet p) → Promise n p
 conjunctions_promise n p h k =

@@ -1,5 +1,6 @@
 -- The stages as they are printed: they hang together, and the answer shows all of them.
 -- Assumes nothing.
+use Rattle.std.specs.Result.{result_unwrap_or}
 use mathlib.Core.Path.{◌≡◌, refl}
 use Prim.Native.Nat.{ℕ}
 use lib.Dec.{T}
@@ -8,7 +9,6 @@ use Rattle.reckoning.specs.Search.{between}
 use Rattle.planets.specs.Planets.{is_planet}
 use Rattle.planets.specs.Stages.{stages_of, no_stages}
 use Rattle.planets.specs.Guards.{AddsUp}
-use Rattle.planets.specs.Answers.{stages_count}
 use Rattle.planets.specs.Jobs.{stages_at}
 use Rattle.planets.proofs.Cases.{each_planet}
 
@@ -24,8 +24,8 @@ adds_up =
 
 -- THE ANSWER HAS THE PLANET'S STAGES, ALL OF THEM, up to its count, and zero from there on
 pub record ShowsAll (p : ℕ) : Type 0 where
-  pub stages : take (stages_count (stages_at p).count) (stages_at p).stages ≡ stages_of p
-  pub unused : drop (stages_count (stages_at p).count) (stages_at p).stages ≡ drop (stages_count (stages_at p).count) no_stages
+  pub stages : take (result_unwrap_or (stages_at p).count 0) (stages_at p).stages ≡ stages_of p
+  pub unused : drop (result_unwrap_or (stages_at p).count 0) (stages_at p).stages ≡ drop (result_unwrap_or (stages_at p).count 0) no_stages
 
 pub shows_all : (p : ℕ) → T (is_planet p) → ShowsAll p
 unfolding stages_at between

@@ -2,16 +2,13 @@
 -- its values, all zero where it is refused. The zero of a kind is "neither", of a stage's kind "unused".
 -- Assumes nothing.
 use Rattle.std.specs.Prelude.{Bool, true, false, cond, List, [], ◌∷◌, ℕ, ℤ, pos, negsuc, nat_abs}
-use Rattle.refusal.specs.Numbers.{number_of}
 use Rattle.units.specs.Xinghe.{P}
 use Rattle.units.specs.Units.{degree_carry}
 use Rattle.units.specs.declared.remainder.DegreeCarry.{DegreeCarry}
 use Rattle.planets.specs.declared.Apparition.{Apparition}
 use Rattle.planets.specs.declared.Conjunction.{Conjunction}
 use Rattle.planets.specs.declared.TwoConjunctions.{TwoConjunctions}
-use Rattle.planets.specs.declared.ConjunctionsAnswer.{ConjunctionsAnswer}
 use Rattle.planets.specs.declared.Stage.{Stage}
-use Rattle.planets.specs.declared.StageCount.{StageCount}
 use Rattle.planets.specs.declared.StageKind.{StageKind}
 use Rattle.planets.specs.declared.synodic.Planet.{Planet}
 use Rattle.planets.specs.declared.synodic.ConjunctionParts.{ConjunctionParts}
@@ -33,19 +30,11 @@ conjunctions_of k y =
       second = shown (following k.period k.halved (conjunction_of P k.period k.halved y));
     }
 
-abbrev pub conjunctions_number : ConjunctionsAnswer → ℕ
-conjunctions_number (ConjunctionsAnswer.Answered x) = 0
-conjunctions_number (ConjunctionsAnswer.Refused e) = number_of e
-
 abbrev zero_conjunction : Conjunction
 zero_conjunction = record { time = in_days 0; since = in_days 0; kind = Apparition.Neither }
 
 abbrev pub zero_conjunctions : TwoConjunctions
 zero_conjunctions = record { first = zero_conjunction; second = zero_conjunction }
-
-abbrev pub conjunctions_values : ConjunctionsAnswer → TwoConjunctions
-conjunctions_values (ConjunctionsAnswer.Answered x) = x
-conjunctions_values (ConjunctionsAnswer.Refused e) = zero_conjunctions
 
 -- morning and evening, and what a planet does, as numbers: so lists and lines have them
 abbrev pub apparition_number : Apparition → ℕ
@@ -72,11 +61,3 @@ stage_fields s =
     s.days ∷ s.remainder.parts ∷ cond (is_back s.degrees) 1 0 ∷ nat_abs s.degrees ∷ s.excess.parts
     ∷ s.whole ∷ s.numerator ∷ s.denominator ∷ stage_kind_number s.kind ∷ apparition_number s.apparition ∷ []
 
--- of the stages' count; the stages stand beside it
-abbrev pub stages_number : StageCount → ℕ
-stages_number (StageCount.Answered n) = 0
-stages_number (StageCount.Refused e) = number_of e
-
-abbrev pub stages_count : StageCount → ℕ
-stages_count (StageCount.Answered n) = n
-stages_count (StageCount.Refused e) = 0

@@ -4,7 +4,6 @@
 ghost use Rattle.std.specs.Prelude.{◌≡◌, ◌<◌};
 ghost use Rattle.planets.specs.Jobs.{conjunctions_in, conjunctions_at, stages_at};
 
-use lunisolar::YearAnswer;
 use refusal::Refusal;
 use units::Xinghe;
 use units::remainder::{DegreeCarry, DegreeRemainder};
@@ -37,12 +36,6 @@ pub struct TwoConjunctions {
     pub second: Conjunction,
 }
 
-#[derive(Clone, Copy)]
-pub enum ConjunctionsAnswer {
-    Answered(TwoConjunctions),
-    Refused(Refusal),
-}
-
 // What a planet does during a stage; a place of the list that no stage takes is unused.
 #[derive(Clone, Copy)]
 pub enum StageKind {
@@ -68,52 +61,46 @@ pub struct Stage {
     pub apparition: Apparition,
 }
 
-#[derive(Clone, Copy)]
-pub enum StageCount {
-    Answered(u64),
-    Refused(Refusal),
-}
-
 // An enum can't hold an array, so the stages stand beside their count: in print order, zero from the count on.
 #[derive(Clone, Copy)]
 pub struct StagesAnswer {
-    pub count: StageCount,
+    pub count: Result<u64, Refusal>,
     pub stages: [Stage; 14],
 }
 
-fn conjunctions_in(y: u64, planet: u64) -> ConjunctionsAnswer
+fn conjunctions_in(y: u64, planet: u64) -> Result<TwoConjunctions, Refusal>
     requires { y < 1048576 }
     ensures { result ≡ conjunctions_in y planet }
 {
     if planet < 1 {
-        return ConjunctionsAnswer::Refused(Refusal::Planet);
+        return Err(Refusal::Planet);
     }
     if synodic::PLANETS < planet {
-        return ConjunctionsAnswer::Refused(Refusal::Planet);
+        return Err(Refusal::Planet);
     }
-    ConjunctionsAnswer::Answered(synodic::conjunctions_of(synodic::planet_of(planet), y))
+    Ok(synodic::conjunctions_of(synodic::planet_of(planet), y))
 }
 
-pub fn conjunctions(year: u64, planet: u64) -> ConjunctionsAnswer
+pub fn conjunctions(year: u64, planet: u64) -> Result<TwoConjunctions, Refusal>
     ensures { result ≡ conjunctions_at year planet }
 {
     match Xinghe::year_at(year) {
-        YearAnswer::Past(y) => conjunctions_in(y, planet),
-        YearAnswer::Refused(e) => ConjunctionsAnswer::Refused(e),
+        Ok(y) => conjunctions_in(y, planet),
+        Err(e) => Err(e),
     }
 }
 
 // How many stages a planet has.
-pub fn stage_count(planet: u64) -> StageCount
+pub fn stage_count(planet: u64) -> Result<u64, Refusal>
     ensures { result ≡ (stages_at planet).count }
 {
     match planet {
-        1 => StageCount::Answered(9),
-        2 => StageCount::Answered(9),
-        3 => StageCount::Answered(7),
-        4 => StageCount::Answered(14),
-        5 => StageCount::Answered(10),
-        _ => StageCount::Refused(Refusal::Planet),
+        1 => Ok(9),
+        2 => Ok(9),
+        3 => Ok(7),
+        4 => Ok(14),
+        5 => Ok(10),
+        _ => Err(Refusal::Planet),
     }
 }
 

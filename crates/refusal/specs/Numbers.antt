@@ -1,8 +1,7 @@
 -- The number of each refusal, as 01 "Numbers returned" and 02 have them: 3 is 01's for the day of a month and 02 §3's for a day of the sixty; 2 and 6 are
 -- 01's for a place and a list, and 02 §6's for a span and a buffer.
--- An answered job has number 0.
 -- Assumes nothing.
-use Rattle.std.specs.Prelude.{ℕ}
+use Rattle.std.specs.Prelude.{ℕ, Result, Ok, Err}
 use Rattle.refusal.specs.declared.Refusal.{Refusal}
 use Rattle.refusal.specs.declared.Refusal.TheVariants.{Year, Place, DayOfMonth, Row, Carry, List, Day, Cut, Planet, DayOfSixty, Names, Span, Room, Volume, Block, FirstYear}
 
@@ -23,3 +22,8 @@ number_of Room = 6
 number_of Volume = 11
 number_of Block = 12
 number_of FirstYear = 13
+
+-- the number of a job's answer: 0 where it answers
+abbrev pub answer_number : {T : Type 0} → Result T Refusal → ℕ
+answer_number (Ok x) = 0
+answer_number (Err e) = number_of e

@@ -1,10 +1,10 @@
 // Why a job refuses, and the number that it returns then (01, "Numbers returned"; 02).
 #![tactic(auto)]
 
-ghost use Rattle.std.specs.Prelude.{◌≡◌};
-ghost use Rattle.refusal.specs.Numbers.{number_of};
+ghost use Rattle.std.specs.Prelude.{◌≡◌, ℕ};
+ghost use Rattle.refusal.specs.Numbers.{number_of, answer_number};
 
-#[derive(Clone, Copy)]
+#[derive(Clone, Copy, Debug, PartialEq, Eq)]
 pub enum Refusal {
     // a year outside the calendar's years
     Year,
@@ -61,6 +61,25 @@ impl Refusal {
             Refusal::Volume => 11,
             Refusal::Block => 12,
             Refusal::FirstYear => 13,
+        }
+    }
+}
+
+// A job's answer is a `Result`: its values, or why it refuses. Those who can't be handed that get its number, beside the values or zeros.
+pub trait Numbered {
+    ghost number: { Self → ℕ };
+
+    fn number(self) -> u64
+        ensures { result ≡ number self };
+}
+
+impl<T: Drop> Numbered for Result<T, Refusal> {
+    ghost number = { answer_number };
+
+    fn number(self) -> u64 {
+        match self {
+            Ok(_) => 0,
+            Err(e) => e.number(),
         }
     }
 }

@@ -1,5 +1,8 @@
 -- For a volume that the reader accepts the answer is the count over every month of the span.
 -- Assumes nothing.
+use Rattle.std.specs.Prelude.{Result, Ok}
+use Rattle.refusal.specs.declared.Refusal.{Refusal}
+use Rattle.refusal.specs.Numbers.{answer_number}
 use mathlib.Core.Path.{◌≡◌, sym, ap, ◌∙◌}
 use mathlib.Core.Logic.{⊎_elim}
 use mathlib.Core.List.{List}
@@ -21,11 +24,9 @@ use Rattle.blocks.specs.Block.{totals_in}
 use Rattle.blocks.proofs.Values.{totals_back}
 use Rattle.volumes.specs.Volume.{Run, block_at, block_in}
 use Rattle.volumes.specs.Reader.{whole_blocks, first_year, read_answer}
-use Rattle.volumes.specs.declared.reader.ReadAnswer.{ReadAnswer}
 use Rattle.volumes.proofs.Parts.{block_in_lem, right_at}
 use Rattle.volumes.proofs.Answered.{accepted}
-use Rattle.reigns.specs.Marked.{end_year, block_of_year, in_volume, none_below, from_last, from_both, marked_answer, marked_number}
-use Rattle.reigns.specs.declared.MarkedAnswer.{MarkedAnswer}
+use Rattle.reigns.specs.Marked.{end_year, block_of_year, in_volume, none_below, from_last, from_both, marked_answer}
 use Rattle.reigns.proofs.Spans.{Inside, is_inside, is_grown}
 
 -- a block with a right check that holds these totals
@@ -46,8 +47,8 @@ holds start year r =
       totals = totals_back (start + k) (totals start (suc k)) (omega (arith, few.leaps)) (omega (arith, few.news)) (omega (arith, few.fulls));
     })
 
-abbrev pub moons : Totals → MarkedAnswer
-moons t = MarkedAnswer.Moons t.news t.fulls
+abbrev pub moons : Totals → Result (ℕ × ℕ) Refusal
+moons t = Ok (t.news, t.fulls)
 
 pub one : (last : List ℕ) (t : Totals) → Holds last t → from_last last ≡ moons t
 unfolding from_last
@@ -87,7 +88,7 @@ module _ (bytes : List ℕ) (from to : ℕ) (whole : T (whole_blocks (length byt
       (two (block_at start (from - 1 - start)) (block_at start (to - start)) (totals start (from - start)) (totals from (to + 1 - from)) (rw k at b) (rw sum at (holds start to r)))
 
 -- a span inside an accepted volume
-module _ (bytes : List ℕ) (first last from to : ℕ) (read : read_answer bytes ≡ ReadAnswer.Years first last) (after : first ≤ from) (order : from ≤ to) (before : to ≤ last) where
+module _ (bytes : List ℕ) (first last from to : ℕ) (read : read_answer bytes ≡ Ok (first, last)) (after : first ≤ from) (order : from ≤ to) (before : to ≤ last) where
   own : (year : ℕ) → first ≤ year → year ≤ last → block_of_year bytes year ≡ block_at first (year - first)
   own year lo hi =
       let a = accepted bytes first last read in
@@ -108,11 +109,11 @@ module _ (bytes : List ℕ) (first last from to : ℕ) (read : read_answer bytes
       (eq-or-lt_of_le after)
 
   -- WHICH IS THE COUNT OVER EVERY MONTH OF THE SPAN, from the first of its first year to the last of its last, by the eclipse definition
-  pub months_counted : marked_answer bytes from to ≡ MarkedAnswer.Moons (over_months new_marked from to) (over_months full_marked from to)
+  pub months_counted : marked_answer bytes from to ≡ Ok ((over_months new_marked from to), (over_months full_marked from to))
   months_counted =
       let r = (accepted bytes first last read).run in
       marks_counted ∙ rw (news_counted from to (omega (arith, r.least)) order (omega (arith, r.most)), fulls_counted from to (omega (arith, r.least)) order (omega (arith, r.most)))
 
   -- AND IS NEVER REFUSED
-  pub never_refused : marked_number (marked_answer bytes from to) ≡ 0
-  never_refused = ap marked_number marks_counted
+  pub never_refused : answer_number (marked_answer bytes from to) ≡ 0
+  never_refused = ap answer_number marks_counted

@@ -1,5 +1,6 @@
 -- One altered byte of an accepted volume, and the answer.
 -- Assumes nothing.
+use Rattle.std.specs.Prelude.{Result, Ok, Err}
 use mathlib.Core.Path.{◌≡◌, refl, sym, ◌∙◌}
 use mathlib.Core.Bool.{◌&&◌}
 use mathlib.Core.Logic.{◌⊎◌, inl, inr, ⊎_elim, ◌≢◌}
@@ -17,19 +18,17 @@ use Rattle.blocks.specs.Check.{right_check}
 use Rattle.blocks.specs.Block.{totals_in}
 use Rattle.volumes.specs.Volume.{block_in}
 use Rattle.volumes.specs.Reader.{first_year, read_answer}
-use Rattle.volumes.specs.declared.reader.ReadAnswer.{ReadAnswer}
 use Rattle.volumes.proofs.Runs.{part_length}
 use Rattle.volumes.proofs.Parts.{byte_in}
 use Rattle.volumes.proofs.Answered.{accepted}
 use Rattle.volumes.proofs.Altered.{wrong_block}
 use Rattle.reigns.specs.Marked.{end_year, block_of_year, in_volume, none_below, from_last, from_both, marked_answer}
-use Rattle.reigns.specs.declared.MarkedAnswer.{MarkedAnswer}
 use Rattle.reigns.proofs.Spans.{Inside, inside}
 use Rattle.reigns.proofs.Only.{only_these}
 use Rattle.reigns.proofs.Counted.{looks}
 
-abbrev refused : MarkedAnswer
-refused = MarkedAnswer.Refused Refusal.Block
+abbrev refused : Result (ℕ × ℕ) Refusal
+refused = Err Refusal.Block
 
 -- a wrong check is refused
 one_wrong : (last : List ℕ) → ¬ (T (right_check last)) → from_last last ≡ refused
@@ -43,7 +42,7 @@ two_wrong before last n =
     let rest = right_check last && grown in
     rw (T_false (right_check before && rest) (λ t. n (both_left (right_check before) rest t, both_left (right_check last) grown (both_right (right_check before) rest t))))
 
-module _ (bytes altered : List ℕ) (first last i from to : ℕ) (read : read_answer bytes ≡ ReadAnswer.Years first last) (long : length altered ≡ length bytes) (past : 4 ≤ i) (here : i < length bytes) (small : get_or altered i 0 < 256) (other : ¬ (get_or bytes i 0 ≡ get_or altered i 0)) (same : (k : ℕ) → ¬ (k ≡ i) → get_or altered k 0 ≡ get_or bytes k 0) where
+module _ (bytes altered : List ℕ) (first last i from to : ℕ) (read : read_answer bytes ≡ Ok (first, last)) (long : length altered ≡ length bytes) (past : 4 ≤ i) (here : i < length bytes) (small : get_or altered i 0 < 256) (other : ¬ (get_or bytes i 0 ≡ get_or altered i 0)) (same : (k : ℕ) → ¬ (k ≡ i) → get_or altered k 0 ≡ get_or bytes k 0) where
   abbrev j : ℕ
   j = i / 512
 
@@ -86,7 +85,7 @@ module _ (bytes altered : List ℕ) (first last i from to : ℕ) (read : read_an
     in_last e =
         let n = wrong (to - first_year altered) (rw named e) in
         looked
-        ∙ pick_cases (λ (a : MarkedAnswer). a ≡ refused) (eqb from (first_year altered)) (from_last (block_of_year altered to)) (from_both (block_of_year altered (from - 1)) (block_of_year altered to))
+        ∙ pick_cases (λ (a : Result (ℕ × ℕ) Refusal). a ≡ refused) (eqb from (first_year altered)) (from_last (block_of_year altered to)) (from_both (block_of_year altered (from - 1)) (block_of_year altered to))
         (λ t. one_wrong (block_of_year altered to) n)
         (λ t. two_wrong (block_of_year altered (from - 1)) (block_of_year altered to) (λ (r : T (right_check (block_of_year altered (from - 1))) × T (right_check (block_of_year altered to))). n r.1))
 
@@ -124,7 +123,7 @@ module _ (bytes altered : List ℕ) (first last i from to : ℕ) (read : read_an
 
   -- NO ONE ALTERED BYTE PAST THE FIRST FOUR GIVES A WRONG COUNT: a volume of the same length that differs from an accepted one at one such place, and
   -- at no other, has the accepted one's answer or is refused under 12
-  pub altered_counted : (marked_answer altered from to ≡ marked_answer bytes from to) ⊎ (marked_answer altered from to ≡ MarkedAnswer.Refused Refusal.Block)
+  pub altered_counted : (marked_answer altered from to ≡ marked_answer bytes from to) ⊎ (marked_answer altered from to ≡ Err Refusal.Block)
   unfolding marked_answer
   altered_counted =
       let test = in_volume (first_year bytes) (end_year bytes) from to in

@@ -1,5 +1,6 @@
 -- A volume whose first four bytes name another year, and the answer.
 -- Assumes nothing.
+use Rattle.std.specs.Prelude.{Result, Err}
 use mathlib.Core.Path.{◌≡◌, refl, sym, ◌∙◌}
 use mathlib.Core.Logic.{⊎_elim, ◌≢◌}
 use mathlib.Core.List.{List}
@@ -17,7 +18,6 @@ use Rattle.volumes.specs.Reader.{whole_blocks, block_count, first_year}
 use Rattle.volumes.proofs.Runs.{part_length}
 use Rattle.volumes.proofs.Parts.{byte_in}
 use Rattle.reigns.specs.Marked.{in_volume, from_last, from_both, marked_answer}
-use Rattle.reigns.specs.declared.MarkedAnswer.{MarkedAnswer}
 use Rattle.reigns.proofs.Spans.{inside, is_inside}
 
 -- years counted from the volume's first
@@ -31,13 +31,13 @@ starts : (f a : ℕ) → eqb (f + a) f ≡ eqb a 0
 starts f zero = eq-eqb (f + 0) f (omega arith) ∙ sym (eq-eqb 0 0 refl)
 starts f (suc a) = ne_eqb (f + suc a) f (λ (q : f + suc a ≡ f). omega arith) ∙ sym (ne_eqb (suc a) 0 (λ (q : suc a ≡ 0). omega arith))
 
-abbrev from_first : List ℕ → ℕ → ℕ → MarkedAnswer
+abbrev from_first : List ℕ → ℕ → ℕ → Result (ℕ × ℕ) Refusal
 from_first w a b =
     pick (whole_blocks (length w))
     (pick (in_volume 0 (block_count w) a b)
     (pick (eqb a 0) (from_last (block_in w b)) (from_both (block_in w (a - 1)) (block_in w b)))
-    (MarkedAnswer.Refused Refusal.Span))
-    (MarkedAnswer.Refused Refusal.Volume)
+    (Err Refusal.Span))
+    (Err Refusal.Volume)
 
 from_first_lem : (w : List ℕ) (a b : ℕ) → marked_answer w (first_year w + a) (first_year w + b) ≡ from_first w a b
 unfolding marked_answer

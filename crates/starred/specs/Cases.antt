@@ -1,7 +1,9 @@
 -- 01, "Cases at the edges": the cases marked *, as 02 moved them (§3: the day of the sixty is one more; §4: Xinghe 2's leap place is 7), and
 -- what §4 says and what rows keep of their new moon by §5, as one table. What each says is `Holds`; proofs/Starred.antt shows that all do.
 -- Assumes nothing.
-use Rattle.std.specs.Prelude.{◌≡◌, Bool, true, false, List, [], ◌∷◌, ℕ, ◌+◌, ◌-◌, ◌*◌, ltb, ℤ, pos, take, drop}
+use Rattle.std.specs.Prelude.{Ok, ◌≡◌, Bool, true, false, List, [], ◌∷◌, ℕ, ◌+◌, ◌-◌, ◌*◌, ltb, ℤ, pos, take, drop}
+use Rattle.refusal.specs.Numbers.{answer_number}
+use Rattle.std.specs.Result.{result_unwrap_or}
 use Rattle.reckoning.specs.Means.{term_day}
 use Rattle.lunisolar.specs.Sixty.{sexagenary_of}
 use Rattle.units.specs.Xinghe.{N, D, P, means}
@@ -9,12 +11,11 @@ use Rattle.moon.specs.NewMoons.{length_of}
 use Rattle.calendar.specs.Heads.{year_head}
 use Rattle.walking.specs.Fields.{bit_of}
 use Rattle.calendar.specs.Rows.{month_row, row_fields}
-use Rattle.calendar.specs.Answers.{row_number, row_values}
-use Rattle.calendar.specs.declared.HeadAnswer.{HeadAnswer}
+use Rattle.calendar.specs.Answers.{zero_row}
 use Rattle.node.specs.Sides.{side_number}
 use Rattle.node.specs.declared.Side.{Side}
 use Rattle.ephemeris.specs.Jobs.{nodes_at, corrections_at}
-use Rattle.ephemeris.specs.Answers.{nodes_number, nodes_values, corrections_number, corrections_values}
+use Rattle.ephemeris.specs.Answers.{zero_nodes, zero_corrections}
 
 pub data Case : Type 0 where
   -- a year: months before, leap remainder, month count, leap place, solstice day and remainder
@@ -36,34 +37,34 @@ pub data Case : Type 0 where
 
 abbrev pub Holds : Case → Type 0
 Holds (head n b r m l d s) =
-    year_head n ≡ HeadAnswer.Answered (record { before = b; remainder = r; months = m; leap = l; solstice = record { day = d; remainder = record { parts = s } } })
+    year_head n ≡ Ok (record { before = b; remainder = r; months = m; leap = l; solstice = record { day = d; remainder = record { parts = s } } })
 Holds (row n p m i l d x r w) =
-    (row_number (month_row n p) ≡ 0)
-    × (take 8 (row_fields (row_values (month_row n p))) ≡ m ∷ n ∷ p ∷ i ∷ bit_of l ∷ d ∷ r ∷ w ∷ [])
+    (answer_number (month_row n p) ≡ 0)
+    × (take 8 (row_fields (result_unwrap_or (month_row n p) zero_row)) ≡ m ∷ n ∷ p ∷ i ∷ bit_of l ∷ d ∷ r ∷ w ∷ [])
     × (sexagenary_of d ≡ x)
 Holds (kept n p d r s a x) =
-    (row_number (month_row n p) ≡ 0)
-    × (drop 8 (row_fields (row_values (month_row n p))) ≡ d ∷ r ∷ side_number s ∷ a ∷ x ∷ [])
+    (answer_number (month_row n p) ≡ 0)
+    × (drop 8 (row_fields (result_unwrap_or (month_row n p) zero_row)) ≡ d ∷ r ∷ side_number s ∷ a ∷ x ∷ [])
 Holds (length r w) = length_of (record { parts = r }) ≡ w
 Holds (new_node n p d r s m w) =
-    (nodes_number (nodes_at n p) ≡ 0)
-    × ((nodes_values (nodes_at n p)).new.distance ≡ record { degrees = d; remainder = record { parts = r }; half = 0 })
-    × ((nodes_values (nodes_at n p)).side ≡ s)
-    × ((nodes_values (nodes_at n p)).new.eclipse.marked ≡ m)
-    × ((nodes_values (nodes_at n p)).new.eclipse.size ≡ w)
+    (answer_number (nodes_at n p) ≡ 0)
+    × ((result_unwrap_or (nodes_at n p) zero_nodes).new.distance ≡ record { degrees = d; remainder = record { parts = r }; half = 0 })
+    × ((result_unwrap_or (nodes_at n p) zero_nodes).side ≡ s)
+    × ((result_unwrap_or (nodes_at n p) zero_nodes).new.eclipse.marked ≡ m)
+    × ((result_unwrap_or (nodes_at n p) zero_nodes).new.eclipse.size ≡ w)
 Holds (full_node n p d r h m w) =
-    (nodes_number (nodes_at n p) ≡ 0)
-    × ((nodes_values (nodes_at n p)).full.distance ≡ record { degrees = d; remainder = record { parts = r }; half = h })
-    × ((nodes_values (nodes_at n p)).full.eclipse.marked ≡ m)
-    × ((nodes_values (nodes_at n p)).full.eclipse.size ≡ w)
+    (answer_number (nodes_at n p) ≡ 0)
+    × ((result_unwrap_or (nodes_at n p) zero_nodes).full.distance ≡ record { degrees = d; remainder = record { parts = r }; half = h })
+    × ((result_unwrap_or (nodes_at n p) zero_nodes).full.eclipse.marked ≡ m)
+    × ((result_unwrap_or (nodes_at n p) zero_nodes).full.eclipse.size ≡ w)
 Holds (correction n p a x c d r) =
-    (corrections_number (corrections_at n p) ≡ 0)
-    × ((corrections_values (corrections_at n p)).new ≡
+    (answer_number (corrections_at n p) ≡ 0)
+    × ((result_unwrap_or (corrections_at n p) zero_corrections).new ≡
     record { anomaly = record { day = a; rest = record { parts = x }; half = 0 }; correction = c; day = d; remainder = record { parts = r }; half = 0 })
 Holds (meeting n p k d) =
-    ((row_values (month_row n p)).day ≡ d)
+    ((result_unwrap_or (month_row n p) zero_row).day ≡ d)
     × (term_day means (12 * (n - 1) + k) ≡ d)
-    × (ltb ((12 * (n - 1) + k) * P * N) ((row_values (month_row n p)).lunation * P * (12 * D)) ≡ true)
+    × (ltb ((12 * (n - 1) + k) * P * N) ((result_unwrap_or (month_row n p) zero_row).lunation * P * (12 * D)) ≡ true)
 
 abbrev pub table : List Case
 table =

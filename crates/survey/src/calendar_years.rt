@@ -34,14 +34,14 @@ impl CalendarSurvey {
         let before = self.digest;
         match calendar {
             Calendar::Zhengguang => {
-                let row = zhengguang::rows::month_row(year, place).values();
-                let nodes = zhengguang::nodes::nodes(year, place).values();
+                let row = zhengguang::rows::month_row(year, place).unwrap_or_default();
+                let nodes = zhengguang::nodes::nodes(year, place).unwrap_or_default();
                 let mean = row.mean;
                 let fed = calendars::fed_zhengguang_month(before, row, nodes);
                 self.with_month(calendar, mean, fed)
             }
             Calendar::Linde => {
-                let month = Linde::month_row(year, place).values();
+                let month = Linde::month_row(year, place).unwrap_or_default();
                 let fed = calendars::fed_linde_month(before, month);
                 self.with_month(calendar, month, fed)
             }
@@ -71,13 +71,13 @@ impl CalendarSurvey {
         let before = self.digest;
         match calendar {
             Calendar::Zhengguang => {
-                let head = zhengguang::heads::year_head(year).values();
+                let head = zhengguang::heads::year_head(year).unwrap_or_default();
                 let mean = head.mean;
                 let fed = calendars::fed_zhengguang_head(before, head);
                 self.with_year(calendar, year, mean, fed)
             }
             Calendar::Linde => {
-                let head = Linde::year_head(year).values();
+                let head = Linde::year_head(year).unwrap_or_default();
                 let fed = calendars::fed_linde_head(before, head);
                 self.with_year(calendar, year, head, fed)
             }

@@ -24,22 +24,22 @@ impl Calendar {
 
     pub fn point(self, year: u64, cut: u64, index: u64) -> MeanPoint {
         match self {
-            Calendar::Zhengguang => Zhengguang::cut_point(year, cut, index).values(),
-            Calendar::Linde => Linde::cut_point(year, cut, index).values(),
+            Calendar::Zhengguang => Zhengguang::cut_point(year, cut, index).unwrap_or_default(),
+            Calendar::Linde => Linde::cut_point(year, cut, index).unwrap_or_default(),
         }
     }
 
     pub fn date(self, number: u64) -> Date {
         match self {
-            Calendar::Zhengguang => Zhengguang::date_of_day(number).values(),
-            Calendar::Linde => Linde::date_of_day(number).values(),
+            Calendar::Zhengguang => Zhengguang::date_of_day(number).unwrap_or_default(),
+            Calendar::Linde => Linde::date_of_day(number).unwrap_or_default(),
         }
     }
 
     pub fn day(self, year: u64, place: u64, day: u64) -> Day {
         match self {
-            Calendar::Zhengguang => Zhengguang::day_of_date(year, place, day).values(),
-            Calendar::Linde => Linde::day_of_date(year, place, day).values(),
+            Calendar::Zhengguang => Zhengguang::day_of_date(year, place, day).unwrap_or_default(),
+            Calendar::Linde => Linde::day_of_date(year, place, day).unwrap_or_default(),
         }
     }
 }

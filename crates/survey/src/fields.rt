@@ -1,4 +1,5 @@
 // Answers fed to a digest: their values in the order in which the second program feeds them.
+use refusal::Numbered;
 use anomaly::{Anomaly, Corrected, Corrections};
 use calendar::MonthRow;
 use lines::digest::Digest;

@@ -40,10 +40,10 @@ impl Survey {
     }
 
     fn month(self, year: u64, place: u64, ganzhi: &[u8]) -> Self {
-        let row = calendar::rows::month_row(year, place).values();
-        let phases = ephemeris::phases(year, place).values();
-        let nodes = ephemeris::nodes(year, place).values();
-        let corrections = ephemeris::corrections(year, place).values();
+        let row = calendar::rows::month_row(year, place).unwrap_or_default();
+        let phases = ephemeris::phases(year, place).unwrap_or_default();
+        let nodes = ephemeris::nodes(year, place).unwrap_or_default();
+        let corrections = ephemeris::corrections(year, place).unwrap_or_default();
         let before = self.digest;
         let with_label = fields::fed_label(fields::fed_row(before, row), row.day, ganzhi);
         let with_phases = fields::fed_phases(with_label, phases);
@@ -76,7 +76,7 @@ impl Survey {
     }
 
     fn year(self, year: u64, ganzhi: &[u8]) -> Self {
-        let head = calendar::heads::year_head(year).values();
+        let head = calendar::heads::year_head(year).unwrap_or_default();
         let before = self.digest;
         let digest = feed_cut(feed_cut(feed_cut(before, year, 24), year, 60), year, 72);
         let counted = self.counts;
@@ -154,14 +154,14 @@ fn feed_cut(digest: Digest, year: u64, cut: u64) -> Digest {
     let mut fed = digest;
     let mut index = 0;
     while index < cut {
-        fed = fields::fed_point(fed, ephemeris::cut_point(year, cut, index).values());
+        fed = fields::fed_point(fed, ephemeris::cut_point(year, cut, index).unwrap_or_default());
         index += 1;
     }
     fed
 }
 
 fn feed_planet(digest: Digest, year: u64, planet: u64) -> Digest {
-    fields::fed_conjunctions(digest, planets::conjunctions(year, planet).values())
+    fields::fed_conjunctions(digest, planets::conjunctions(year, planet).unwrap_or_default())
 }
 
 // Every planet's conjunctions of the year.

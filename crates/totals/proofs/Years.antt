@@ -1,5 +1,8 @@
 -- The marks of a year, and the totals of the round's first years, by the months before a year.
 -- Assumes nothing.
+use Rattle.std.specs.Prelude.{Result}
+use Rattle.refusal.specs.declared.Refusal.{Refusal}
+use Rattle.std.specs.Result.{result_unwrap_or}
 use mathlib.Core.Path.{◌≡◌, refl, ap, ◌∙◌}
 use mathlib.Core.Logic.{⊎_elim}
 use mathlib.Core.Bool.{Bool}
@@ -20,13 +23,12 @@ use Rattle.units.proofs.Sound.{laws}
 use Rattle.node.specs.Nodes.{nodes_of}
 use Rattle.node.specs.declared.Nodes.{Nodes}
 use Rattle.node.specs.Marks.{new_marked, full_marked, new_moons_marked, full_moons_marked}
-use Rattle.lunisolar.specs.declared.YearAnswer.{YearAnswer}
 use Rattle.calendar.specs.Heads.{head_of, head_for}
-use Rattle.calendar.specs.Answers.{head_values}
+use Rattle.calendar.specs.Answers.{zero_head}
 use Rattle.calendar.specs.Rows.{row_of, row_for}
 use Rattle.calendar.proofs.Round.{round_months_lem}
 use Rattle.ephemeris.specs.Jobs.{nodes_for, nodes_at}
-use Rattle.ephemeris.specs.Answers.{nodes_values}
+use Rattle.ephemeris.specs.Answers.{zero_nodes}
 use Rattle.year_list.specs.Filled.{row_at}
 use Rattle.totals.specs.Totals.{months_of, marks_of, plus, totals}
 use Rattle.totals.specs.declared.Totals.{Totals}
@@ -37,7 +39,7 @@ module _ (y : ℕ) (in_round_lem : y < round_years) where
   unfolding head_for head_of
   months_is =
       let e : 1 + y ≡ y + 1 = omega arith in
-      ap months_of e ∙ ap (λ (a : YearAnswer). (head_values (head_for a)).months) (year_at_lem xinghe y in_round_lem)
+      ap months_of e ∙ ap (λ (a : Result ℕ Refusal). (result_unwrap_or (head_for a) zero_head).months) (year_at_lem xinghe y in_round_lem)
 
   -- its rows are those of its months, and so are its eclipse pages
   row_leap : (p : ℕ) → p < month_count rule y → (row_at (1 + y) p).leap ≡ is_leap rule y (rule.before y + p)
@@ -46,7 +48,7 @@ module _ (y : ℕ) (in_round_lem : y < round_years) where
       let e : 1 + y ≡ y + 1 = omega arith in
       rw (e, lunation_at_lem xinghe y p in_round_lem h, year_of_lem rule laws y p h)
 
-  page : (p : ℕ) → p < month_count rule y → nodes_values (nodes_at (1 + y) p) ≡ nodes_of (rule.before y + p)
+  page : (p : ℕ) → p < month_count rule y → result_unwrap_or (nodes_at (1 + y) p) zero_nodes ≡ nodes_of (rule.before y + p)
   unfolding nodes_for
   page p h = let e : 1 + y ≡ y + 1 = omega arith in rw (e, lunation_at_lem xinghe y p in_round_lem h)
 
@@ -65,12 +67,12 @@ module _ (y : ℕ) (in_round_lem : y < round_years) where
 
   -- what is marked on its eclipse pages is what comes to be marked in the months up to the next year
   marks_is : (f : Nodes → Bool) →
-      count (λ (m : ℕ). f (nodes_of m)) (rule.before y) + count (λ (p : ℕ). f (nodes_values (nodes_at (1 + y) p))) (months_of (1 + y)) ≡ count (λ (m : ℕ). f (nodes_of m)) (rule.before (suc y))
+      count (λ (m : ℕ). f (nodes_of m)) (rule.before y) + count (λ (p : ℕ). f (result_unwrap_or (nodes_at (1 + y) p) zero_nodes)) (months_of (1 + y)) ≡ count (λ (m : ℕ). f (nodes_of m)) (rule.before (suc y))
   marks_is f =
       let marked : ℕ → Bool = λ (m : ℕ). f (nodes_of m) in
       rw (months_is, ← (year_ends rule laws y), count_on marked (rule.before y) (month_count rule y))
       (ap (λ (k : ℕ). count marked (rule.before y) + k)
-      (count_same (λ (p : ℕ). f (nodes_values (nodes_at (1 + y) p))) (λ (p : ℕ). marked (rule.before y + p)) (month_count rule y) (λ p h. ap f (page p h))))
+      (count_same (λ (p : ℕ). f (result_unwrap_or (nodes_at (1 + y) p) zero_nodes)) (λ (p : ℕ). marked (rule.before y + p)) (month_count rule y) (λ p h. ap f (page p h))))
 
 -- THE TOTALS OF THE ROUND'S FIRST y YEARS: the months past twelve a year, and the marked moons of all months before the next year
 pub record OfFirst (y : ℕ) (t : Totals) : Type 0 where

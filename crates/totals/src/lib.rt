@@ -4,7 +4,6 @@
 ghost use Rattle.std.specs.Prelude.{◌≡◌, ◌+◌, ◌-◌, ◌≤◌};
 ghost use Rattle.units.specs.Xinghe.{rule, round_years};
 ghost use Rattle.calendar.specs.Heads.{year_head};
-ghost use Rattle.calendar.specs.declared.HeadAnswer.{HeadAnswer};
 ghost use Rattle.totals.specs.Totals.{totals};
 
 use calendar::YearHead;
@@ -40,7 +39,7 @@ pub fn before(first: u64) -> Totals
 
 // Of the years from a first one, before which the totals are at hand, to the one with that head.
 pub fn since(first: u64, start: Totals, year: u64, head: YearHead) -> Totals
-    requires { (1 ≤ first) × (first ≤ year) × (start ≡ totals 1 (first - 1)) × (HeadAnswer.Answered head ≡ year_head year) }
+    requires { (1 ≤ first) × (first ≤ year) × (start ≡ totals 1 (first - 1)) × (Ok head ≡ year_head year) }
     ensures { result ≡ totals first (year + 1 - first) }
 {
     let all = of_first(year, head.before + head.months);

@@ -9,7 +9,8 @@ ghost use Rattle.lunisolar.specs.Calendars.{year_at, lunation_at};
 ghost use Rattle.units.specs.Xinghe.{xinghe, means, rule};
 ghost use Rattle.units.specs.Chapter.{leap_remainder};
 
-use lunisolar::{Constants, LunationAnswer, YearAnswer};
+use refusal::Refusal;
+use lunisolar::Constants;
 
 pub mod chapter;
 mod entries;
@@ -71,22 +72,22 @@ impl Xinghe {
     }
 
     // The years past before a year as it is written.
-    pub fn year_at(year: u64) -> YearAnswer
+    pub fn year_at(year: u64) -> Result<u64, Refusal>
         ensures { result ≡ year_at xinghe year }
     {
         lunisolar::year_at(Xinghe::constants(), year)
     }
 
     // The month of the round at a place of a year.
-    pub fn lunation_at(year: u64, place: u64) -> LunationAnswer
+    pub fn lunation_at(year: u64, place: u64) -> Result<u64, Refusal>
         ensures { result ≡ lunation_at xinghe year place }
     {
         match Xinghe::year_at(year) {
-            YearAnswer::Past(y) => {
+            Ok(y) => {
                 let before = chapter::months_before(y);
                 lunisolar::lunation_in(Xinghe::constants(), y, before, place)
             }
-            YearAnswer::Refused(e) => LunationAnswer::Refused(e),
+            Err(e) => Err(e),
         }
     }
 

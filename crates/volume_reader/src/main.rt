@@ -1,10 +1,11 @@
 // Reads a volume from standard input and prints its first and its last year.
 #![tactic(auto)]
 
+use refusal::Refusal;
 use blocks::BLOCK;
 use std::io;
 use std::io::Read;
-use volumes::reader::{ReadAnswer, Reader};
+use volumes::reader::Reader;
 
 // What comes after the last whole block, where that isn't known: something.
 const UNKNOWN: usize = 1;
@@ -20,7 +21,7 @@ fn left_over<R: Read>(input: &mut R, got: usize) -> usize {
 
 // What `volumes::reader::read` does with a list of bytes, with blocks as they come, so that a volume of any length needs no more memory than one. A
 // proved loop has to end, and nothing says that an input does: the loop has more turns than any run uses up.
-fn read_volume<R: Read>(input: &mut R) -> ReadAnswer {
+fn read_volume<R: Read>(input: &mut R) -> Result<(u64, u64), Refusal> {
     let mut reader = Reader::new();
     for _ in 0..u64::MAX {
         let mut part = [0u8; BLOCK];

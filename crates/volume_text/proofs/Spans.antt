@@ -1,5 +1,6 @@
 -- A line with a byte more, and which span a whole line asks for.
 -- Assumes nothing.
+use Rattle.std.specs.Prelude.{Err}
 use mathlib.Core.Path.{◌≡◌, refl, sym, ap, ◌∙◌}
 use mathlib.Core.Bool.{Bool, true, false, ◌&&◌, ◌||◌}
 use mathlib.Core.Logic.{⊎_elim}
@@ -12,7 +13,6 @@ use Rattle.reckoning.proofs.Searches.{T_false, le_or_lt, both_left, both_right}
 use Rattle.refusal.specs.declared.Refusal.{Refusal}
 use Rattle.units.specs.Xinghe.{round_years, is_year}
 use Rattle.volumes.specs.Writer.{span_answer}
-use Rattle.volumes.specs.declared.writer.SpanAnswer.{SpanAnswer}
 use Rattle.volumes.proofs.Runs.{year_high}
 use Rattle.year_text.specs.Decimal.{all_digits, value_from}
 use Rattle.year_text.specs.Lines.{past_round, read_of, fed, is_settled, year_of_line}
@@ -75,14 +75,14 @@ span_fed_lem bs b = rw (blank_on (b ∷ []) bs, before_on (b ∷ []) bs, after_o
     go false e false = rw (none_after bs e, fed_read (before_blank bs) b)
 
 -- no span where one of the two is no year
-no_span : (a b : ℕ) → ¬ (T (is_year a && is_year b)) → span_answer a b ≡ SpanAnswer.Refused Refusal.Year
+no_span : (a b : ℕ) → ¬ (T (is_year a && is_year b)) → span_answer a b ≡ Err Refusal.Year
 unfolding span_answer
 no_span a b h = rw (T_false (is_year a && is_year b) h)
 
-past_first : (a b : ℕ) → round_years < a → span_answer a b ≡ SpanAnswer.Refused Refusal.Year
+past_first : (a b : ℕ) → round_years < a → span_answer a b ≡ Err Refusal.Year
 past_first a b h = no_span a b (λ t. omega (arith, year_high a (both_left (is_year a) (is_year b) t)))
 
-past_last : (a b : ℕ) → round_years < b → span_answer a b ≡ SpanAnswer.Refused Refusal.Year
+past_last : (a b : ℕ) → round_years < b → span_answer a b ≡ Err Refusal.Year
 past_last a b h = no_span a b (λ t. omega (arith, year_high b (both_right (is_year a) (is_year b) t)))
 
 -- one past every year stands for all that are past it
@@ -109,7 +109,7 @@ unfolding read_of all_digits value_from
 unsettled e = let bad : ◌≡◌ {A = ℕ} 0 1 = cc in omega arith
 
 -- SETTLED: once one of the two can't become a year of the round, the line asks for no span, whatever follows
-pub span_settled_lem : (bs cs : List ℕ) → span_settled (span_read bs) ≡ true → span_of_line (bs ++ cs) ≡ SpanAnswer.Refused Refusal.Year
+pub span_settled_lem : (bs cs : List ℕ) → span_settled (span_read bs) ≡ true → span_of_line (bs ++ cs) ≡ Err Refusal.Year
 unfolding span_read
 span_settled_lem bs cs e = go (is_settled (read_of (before_blank bs))) refl (has_blank bs) refl e
   where
@@ -119,7 +119,7 @@ span_settled_lem bs cs e = go (is_settled (read_of (before_blank bs))) refl (has
     b : ℕ
     b = year_of_line (after_blank (bs ++ cs))
 
-    go : (t : Bool) → is_settled (read_of (before_blank bs)) ≡ t → (u : Bool) → has_blank bs ≡ u → (t || is_settled (read_of (after_blank bs))) ≡ true → span_answer a b ≡ SpanAnswer.Refused Refusal.Year
+    go : (t : Bool) → is_settled (read_of (before_blank bs)) ≡ t → (u : Bool) → has_blank bs ≡ u → (t || is_settled (read_of (after_blank bs))) ≡ true → span_answer a b ≡ Err Refusal.Year
     go true q u w e =
         no_span a b (λ t. none (is_year a) (rw (before_on cs bs) (settled_none (before_blank bs) (pick (has_blank bs) [] (before_blank cs)) q)) (both_left (is_year a) (is_year b) t))
     go false q true w e =

@@ -3,7 +3,7 @@ ghost use Rattle.std.specs.Prelude.{◌≡◌, []};
 ghost use Rattle.volumes.specs.Writer.{span_answer};
 ghost use Rattle.volume_text.specs.Lines.{span_read, span_fed, span_settled};
 
-use volumes::writer::SpanAnswer;
+use refusal::Refusal;
 use year_text::reader::Reader;
 
 #[derive(Clone, Copy)]
@@ -67,7 +67,7 @@ impl SpanReader {
     }
 
     // How many years the line asks for.
-    pub fn span(self) -> SpanAnswer
+    pub fn span(self) -> Result<u64, Refusal>
         ensures { result ≡ span_answer self.first.year self.last.year }
     {
         let first = self.first;

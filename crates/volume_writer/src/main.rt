@@ -7,8 +7,6 @@ ghost use Rattle.units.specs.Xinghe.{round_years};
 use std::io;
 use std::io::Read;
 use volume_text::reader::SpanReader;
-use volumes::reader::ReadAnswer;
-use volumes::writer::SpanAnswer;
 
 // One byte at a time, so that what follows the line is left for whoever reads next. The line ends at a newline, at the end of the input, and where it
 // is settled. A read that fails leaves a line that isn't known: it asks for no year. A proved loop has to end: the turns are more than any run uses
@@ -47,13 +45,13 @@ fn write_blocks(rt: &impl Print, first: u64, n: u64) -> io::Result<()>
 fn main(rt: HostRuntime) -> io::Result<()> {
     let reader = read_span(&mut rt.stdin());
     match reader.span() {
-        SpanAnswer::Years(n) => {
+        Ok(n) => {
             let first = reader.first;
             write_blocks(&rt, first.year, n)
         }
-        SpanAnswer::Refused(e) => {
+        Err(e) => {
             let mut line = [0u8; 64];
-            let n = volume_text::writer::render(ReadAnswer::Refused(e), &mut line);
+            let n = volume_text::writer::render(Err(e), &mut line);
             rt.write_all(&line[..n])
         }
     }

@@ -1,5 +1,6 @@
 -- A volume that differs from an accepted one in one byte is refused under 12.
 -- Assumes nothing.
+use Rattle.std.specs.Prelude.{Ok, Err}
 use mathlib.Core.Path.{◌≡◌, refl, sym, ap, ◌∙◌}
 use mathlib.Core.Logic.{⊎_elim, ◌≢◌}
 use mathlib.Core.List.{List}
@@ -18,7 +19,6 @@ use Rattle.blocks.proofs.Altered as blocks-altered
 use Rattle.blocks.proofs.Small.{Bytes, none, joined, block_bytes}
 use Rattle.volumes.specs.Volume.{block_at, blocks, block_in}
 use Rattle.volumes.specs.Reader.{whole_blocks, block_count, genuine_at, read_answer}
-use Rattle.volumes.specs.declared.reader.ReadAnswer.{ReadAnswer}
 use Rattle.volumes.proofs.Runs.{part_length, blocks_length}
 use Rattle.volumes.proofs.Parts.{block_in_lem, byte_in, set_in, right_at, small_in}
 use Rattle.volumes.proofs.Genuine.{genuine_right}
@@ -30,7 +30,7 @@ unfolding blocks block_at
 blocks_bytes first zero = none
 blocks_bytes first (suc k) = joined (blocks first k) (block_at first k) (blocks_bytes first k) (block_bytes (first + k) (totals first (suc k)))
 
-module _ (bytes : List ℕ) (first last i b : ℕ) (read : read_answer bytes ≡ ReadAnswer.Years first last) (here : i < length bytes) (small : b < 256) (other : get_or bytes i 0 ≡ b → ⊥) where
+module _ (bytes : List ℕ) (first last i b : ℕ) (read : read_answer bytes ≡ Ok (first, last)) (here : i < length bytes) (small : b < 256) (other : get_or bytes i 0 ≡ b → ⊥) where
   abbrev j : ℕ
   j = i / 512
 
@@ -56,7 +56,7 @@ module _ (bytes : List ℕ) (first last i b : ℕ) (read : read_answer bytes ≡
       rw moved (blocks-altered.altered (block_in bytes j) k b long (small_in bytes j long are_bytes) small (λ (e : get_or (block_in bytes j) k 0 ≡ b). other (sym byte ∙ e)) (omega arith) was_right)
 
   -- an accepted volume with another byte put at a place is refused under 12
-  set_refused : read_answer (set bytes i b) ≡ ReadAnswer.Refused Refusal.Block
+  set_refused : read_answer (set bytes i b) ≡ Err Refusal.Block
   unfolding read_answer whole_blocks
   set_refused =
       let new = set bytes i b in
@@ -78,12 +78,12 @@ one_place xs ys i e h same =
     (same_or k i))
 
 -- a volume that differs from an accepted one at one place, and at no other
-module _ (bytes altered : List ℕ) (first last i : ℕ) (read : read_answer bytes ≡ ReadAnswer.Years first last) (long : length altered ≡ length bytes) (here : i < length bytes) (small : get_or altered i 0 < 256) (other : ¬ (get_or bytes i 0 ≡ get_or altered i 0)) (same : (k : ℕ) → ¬ (k ≡ i) → get_or altered k 0 ≡ get_or bytes k 0) where
+module _ (bytes altered : List ℕ) (first last i : ℕ) (read : read_answer bytes ≡ Ok (first, last)) (long : length altered ≡ length bytes) (here : i < length bytes) (small : get_or altered i 0 < 256) (other : ¬ (get_or bytes i 0 ≡ get_or altered i 0)) (same : (k : ℕ) → ¬ (k ≡ i) → get_or altered k 0 ≡ get_or bytes k 0) where
   -- THE BLOCK WITH THAT BYTE HAS A WRONG CHECK
   pub wrong_block : ¬ (T (right_check (block_in altered (i / 512))))
   wrong_block = rw (one_place bytes altered i long here same) (wrong bytes first last i (get_or altered i 0) read here small other)
 
   -- ANY ONE ALTERED BYTE OF AN ACCEPTED VOLUME IS CAUGHT: a volume of the same length that differs from it at one place, and at no other, is
   -- refused under 12
-  pub altered_refused : read_answer altered ≡ ReadAnswer.Refused Refusal.Block
+  pub altered_refused : read_answer altered ≡ Err Refusal.Block
   altered_refused = ap read_answer (one_place bytes altered i long here same) ∙ set_refused bytes first last i (get_or altered i 0) read here small other

@@ -1,5 +1,6 @@
 -- A block that is genuine is the writer's, and the reader's state goes from block to block as the answer does.
 -- Assumes nothing.
+use Rattle.std.specs.Prelude.{Result, Ok, Err}
 use mathlib.Core.Path.{◌≡◌, refl, sym, ap, ◌∙◌}
 use mathlib.Core.Bool.{Bool, true, false, ◌&&◌}
 use mathlib.Core.Logic.{⊎_elim, ◌≢◌}
@@ -20,7 +21,6 @@ use Rattle.blocks.proofs.Same.{same_eq, same_refl}
 use Rattle.volumes.specs.Volume.{is_run, block_at, block_in}
 use Rattle.volumes.specs.Reader.{whole_blocks, block_count, first_year, genuine_at, read_answer}
 use Rattle.volumes.specs.Stream.{held, read_on, reader_after, read_through, ended, finished}
-use Rattle.volumes.specs.declared.reader.ReadAnswer.{ReadAnswer}
 use Rattle.volumes.specs.declared.reader.Reader.{Reader}
 use Rattle.volumes.proofs.Runs.{run_of, is_run_lem, year_in_lem, year_low, year_high}
 use Rattle.volumes.proofs.Parts.{field_in, right_at}
@@ -94,22 +94,22 @@ module _ (bytes : List ℕ) where
       rw (T_false (all (genuine_at bytes) (suc (suc k))) (λ t. n (both_right (genuine_at bytes (suc k)) (all (genuine_at bytes) (suc k)) t)), T_false (all (genuine_at bytes) (suc k)) n))
       (decide (all (genuine_at bytes) (suc k)))
 
-  abbrev volume_refused : ReadAnswer
-  volume_refused = ReadAnswer.Refused Refusal.Volume
+  abbrev volume_refused : Result (ℕ × ℕ) Refusal
+  volume_refused = Err Refusal.Volume
 
   -- THE ANSWER FROM THE STATE AFTER THE LAST WHOLE BLOCK, and from how many bytes come after it
   pub reads_all : read_answer bytes ≡ finished (reader_after bytes (block_count bytes)) (length bytes % 512)
   unfolding read_answer finished whole_blocks reader_after
   reads_all =
       ⊎_elim whole
-      (λ (n : length bytes % 512 ≢ 0). rw (ne_eqb (length bytes % 512) 0 n) (cut (leb 1 (length bytes)) (pick (all (genuine_at bytes) (block_count bytes)) (ReadAnswer.Years first (first + block_count bytes - 1)) (ReadAnswer.Refused Refusal.Block))))
+      (λ (n : length bytes % 512 ≢ 0). rw (ne_eqb (length bytes % 512) 0 n) (cut (leb 1 (length bytes)) (pick (all (genuine_at bytes) (block_count bytes)) (Ok (first, (first + block_count bytes - 1))) (Err Refusal.Block))))
       (same_or (length bytes % 512) 0)
     where
-      cut : (b : Bool) (x : ReadAnswer) → pick (b && false) x volume_refused ≡ volume_refused
+      cut : (b : Bool) (x : Result (ℕ × ℕ) Refusal) → pick (b && false) x volume_refused ≡ volume_refused
       cut true x = refl
       cut false x = refl
 
-      go : (k : ℕ) → k ≡ block_count bytes → length bytes % 512 ≡ 0 → pick (leb 1 (length bytes) && true) (pick (all (genuine_at bytes) k) (ReadAnswer.Years first (first + k - 1)) (ReadAnswer.Refused Refusal.Block)) volume_refused ≡ ended (reader_after bytes k)
+      go : (k : ℕ) → k ≡ block_count bytes → length bytes % 512 ≡ 0 → pick (leb 1 (length bytes) && true) (pick (all (genuine_at bytes) k) (Ok (first, (first + k - 1))) (Err Refusal.Block)) volume_refused ≡ ended (reader_after bytes k)
       go zero e r = rw (lt-leb 1 (length bytes) (omega arith))
       go (suc k) e r =
           let last : first + suc k - 1 ≡ first + k = omega arith in

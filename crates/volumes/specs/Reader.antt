@@ -1,14 +1,12 @@
 -- The reader (02 §6).
 -- Assumes nothing.
-use Rattle.std.specs.Prelude.{Bool, ◌&&◌, List, [], ◌∷◌, ℕ, ◌+◌, ◌-◌, ◌/◌, ◌%◌, leb, eqb, length}
+use Rattle.std.specs.Prelude.{Result, Ok, Err, Bool, ◌&&◌, List, [], ◌∷◌, ℕ, ◌+◌, ◌-◌, ◌/◌, ◌%◌, leb, eqb, length}
 use Rattle.reckoning.specs.Search.{pick, all}
-use Rattle.refusal.specs.Numbers.{number_of}
 use Rattle.refusal.specs.declared.Refusal.{Refusal}
 use Rattle.units.specs.Xinghe.{is_year}
 use Rattle.blocks.specs.Bytes.{value32, same}
 use Rattle.blocks.specs.Check.{right_check}
 use Rattle.volumes.specs.Volume.{block_at, block_in}
-use Rattle.volumes.specs.declared.reader.ReadAnswer.{ReadAnswer}
 
 -- a whole number of blocks, and not none
 unfoldable pub whole_blocks : ℕ → Bool
@@ -27,19 +25,14 @@ genuine_at bytes i =
     right_check (block_in bytes i) && (is_year (first_year bytes + i) && same (block_in bytes i) (block_at (first_year bytes) i))
 
 -- the first year and the last: refused under 11 where the bytes are no whole number of blocks or none, then under 12 where a block is not genuine
-unfoldable pub read_answer : List ℕ → ReadAnswer
+unfoldable pub read_answer : List ℕ → Result (ℕ × ℕ) Refusal
 read_answer bytes =
     pick (whole_blocks (length bytes))
     (pick (all (genuine_at bytes) (block_count bytes))
-    (ReadAnswer.Years (first_year bytes) (first_year bytes + block_count bytes - 1))
-    (ReadAnswer.Refused Refusal.Block))
-    (ReadAnswer.Refused Refusal.Volume)
+    (Ok ((first_year bytes), (first_year bytes + block_count bytes - 1)))
+    (Err Refusal.Block))
+    (Err Refusal.Volume)
 
--- the number of an answer, and the two years, 0 where it is refused
-abbrev pub read_number : ReadAnswer → ℕ
-read_number (ReadAnswer.Years first last) = 0
-read_number (ReadAnswer.Refused e) = number_of e
-
-abbrev pub read_years : ReadAnswer → List ℕ
-read_years (ReadAnswer.Years first last) = first ∷ last ∷ []
-read_years (ReadAnswer.Refused e) = 0 ∷ 0 ∷ []
+abbrev pub read_years : Result (ℕ × ℕ) Refusal → List ℕ
+read_years (Ok (first, last)) = first ∷ last ∷ []
+read_years (Err e) = 0 ∷ 0 ∷ []

@@ -1,14 +1,12 @@
 -- The reader as the program carries it from block to block, so that a volume of any length needs no more memory than one. What a volume's answer is,
 -- is defined without this.
 -- Assumes nothing.
-use Rattle.std.specs.Prelude.{◌&&◌, List, ℕ, zero, suc, ◌+◌, ◌-◌, eqb}
+use Rattle.std.specs.Prelude.{Result, Ok, Err, ◌&&◌, List, ℕ, zero, suc, ◌+◌, ◌-◌, eqb}
 use Rattle.reckoning.specs.Search.{pick, all}
 use Rattle.refusal.specs.declared.Refusal.{Refusal}
 use Rattle.blocks.specs.Bytes.{value32, same}
-use Rattle.volumes.specs.Volume.{block_at}
-use Rattle.volumes.specs.Volume.{is_run, block_in}
+use Rattle.volumes.specs.Volume.{block_at, is_run, block_in}
 use Rattle.volumes.specs.Reader.{first_year, genuine_at}
-use Rattle.volumes.specs.declared.reader.ReadAnswer.{ReadAnswer}
 use Rattle.volumes.specs.declared.reader.Reader.{Reader}
 
 -- the state after a block that has to be that of a year in the volume from a first year on
@@ -32,10 +30,10 @@ read_through bytes zero = Reader.Empty
 read_through bytes (suc k) = read_on (read_through bytes k) (block_in bytes k)
 
 -- the answer where the volume ends with the last block, and where so many bytes come after it
-abbrev pub ended : Reader → ReadAnswer
-ended Reader.Empty = ReadAnswer.Refused Refusal.Volume
-ended (Reader.Right first last) = ReadAnswer.Years first last
-ended Reader.Wrong = ReadAnswer.Refused Refusal.Block
+abbrev pub ended : Reader → Result (ℕ × ℕ) Refusal
+ended Reader.Empty = Err Refusal.Volume
+ended (Reader.Right first last) = Ok (first, last)
+ended Reader.Wrong = Err Refusal.Block
 
-unfoldable pub finished : Reader → ℕ → ReadAnswer
-finished s rest = pick (eqb rest 0) (ended s) (ReadAnswer.Refused Refusal.Volume)
+unfoldable pub finished : Reader → ℕ → Result (ℕ × ℕ) Refusal
+finished s rest = pick (eqb rest 0) (ended s) (Err Refusal.Volume)

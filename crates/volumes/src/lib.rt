@@ -41,7 +41,7 @@ fn put_block(out: &mut [u8], first: u64, start: Totals, year: u64)
     ensures { out.new ≡ block_at first (year - first) }
 {
     let head = calendar::heads::year_head(year);
-    let totals = totals::since(first, start, year, head.values());
+    let totals = totals::since(first, start, year, head.unwrap_or_default());
     blocks::fill_block(out, year, head, totals)
 }
 

@@ -1,41 +1,13 @@
 // The reader: the two years of a volume that the writer wrote. It goes from block to block, so that a volume that comes in pieces is read by the
 // same steps.
 ghost use Rattle.std.specs.Prelude.{◌≡◌, length};
-ghost use Rattle.volumes.specs.Reader.{read_answer, read_number, read_years};
+ghost use Rattle.volumes.specs.Reader.{read_answer, read_years};
 ghost use Rattle.volumes.specs.Stream.{held, read_on, finished};
 ghost use Rattle.volumes.specs.declared.reader.Reader.{Reader};
 
 use blocks::BLOCK;
 use refusal::Refusal;
 use units::Xinghe;
-
-// The first year and the last.
-#[derive(Clone, Copy)]
-pub enum ReadAnswer {
-    Years(u64, u64),
-    Refused(Refusal),
-}
-
-impl ReadAnswer {
-    pub fn number(self) -> u64
-        ensures { result ≡ read_number self }
-    {
-        match self {
-            ReadAnswer::Years(_, _) => 0,
-            ReadAnswer::Refused(e) => e.number(),
-        }
-    }
-
-    // The two years, zeros where the job is refused.
-    pub fn years(self) -> [u64; 2]
-        ensures { result ≡ read_years self }
-    {
-        match self {
-            ReadAnswer::Years(first, last) => [first, last],
-            ReadAnswer::Refused(_) => [0, 0],
-        }
-    }
-}
 
 // What the blocks so far are: none; the writer's, from a first year to a last; or not the writer's.
 #[derive(Clone, Copy)]
@@ -88,22 +60,22 @@ impl Reader {
     }
 
     // The answer, where so many bytes came after the last whole block.
-    pub fn finish(self, rest: usize) -> ReadAnswer
+    pub fn finish(self, rest: usize) -> Result<(u64, u64), Refusal>
         ensures { result ≡ finished self rest }
     {
         if rest != 0 {
-            return ReadAnswer::Refused(Refusal::Volume);
+            return Err(Refusal::Volume);
         }
         match self {
-            Reader::Empty => ReadAnswer::Refused(Refusal::Volume),
-            Reader::Right(first, last) => ReadAnswer::Years(first, last),
-            Reader::Wrong => ReadAnswer::Refused(Refusal::Block),
+            Reader::Empty => Err(Refusal::Volume),
+            Reader::Right(first, last) => Ok((first, last)),
+            Reader::Wrong => Err(Refusal::Block),
         }
     }
 }
 
 // The two years of a volume.
-pub fn read(volume: &[u8]) -> ReadAnswer
+pub fn read(volume: &[u8]) -> Result<(u64, u64), Refusal>
     ensures { result ≡ read_answer volume.now }
 {
     let n = volume.len() / BLOCK;

@@ -1,6 +1,7 @@
 -- Demand 3 at the Xinghe: for any genuine month row and any list of signed carries, refused ones included, the walk holds the row worked out from the
 -- origin for the first month plus the sum of the answered counts; and the treatise's monthly addition.
 -- Assumes nothing.
+use Rattle.std.specs.Prelude.{Ok, Err}
 use mathlib.Core.Path.{◌≡◌, ◌∙◌, sym, ap}
 use Prim.Native.Nat.{ℕ, suc, ◌+◌, ◌<◌}
 use native.Mathlib.Omega.{arith}
@@ -15,22 +16,20 @@ use Rattle.moon.specs.NewMoons.{monthly_addition}
 use Rattle.calendar.specs.Rows.{row_of}
 use Rattle.calendar.specs.Carries.{months, shown, carried}
 use Rattle.calendar.specs.declared.MonthRow.{MonthRow}
-use Rattle.calendar.specs.declared.RowAnswer.{RowAnswer}
 use Rattle.calendar.proofs.Lawful.{lawful, lossless}
 use Rattle.calendar.proofs.Months.{moon_of, monthly}
 use Rattle.walk.specs.Walked.{walked}
-use Rattle.walk.specs.declared.WalkAnswer.{WalkAnswer}
 
 -- WALKING AND DIRECT WORKING ARE ONE THING: for every row and every list of counts
-pub demand_3 : Demand months shown (λ r cs. WalkAnswer.Answered (walked r cs)) (WalkAnswer.Refused Refusal.Row)
+pub demand_3 : Demand months shown (λ r cs. Ok (walked r cs)) (Err Refusal.Row)
 demand_3 =
-    demand months lawful shown lossless (λ r cs. WalkAnswer.Answered (walked r cs)) (WalkAnswer.Refused Refusal.Row)
+    demand months lawful shown lossless (λ r cs. Ok (walked r cs)) (Err Refusal.Row)
     (λ r cs e. let bad : ◌≡◌ {A = ℕ} 0 1 = cc in omega arith)
 
 -- A carry by 1 of every genuine row that has a next is answered with the next month's row, whose day and remainder are those that the treatise's
 -- monthly addition gives
 pub addition : (r : MonthRow) → Genuine months r → suc r.lunation < round_months →
-    (carried r (pos 1) ≡ RowAnswer.Answered (row_of (suc r.lunation))) × (moon_of (row_of (suc r.lunation)) ≡ monthly_addition (moon_of r))
+    (carried r (pos 1) ≡ Ok (row_of (suc r.lunation))) × (moon_of (row_of (suc r.lunation)) ≡ monthly_addition (moon_of r))
 addition r g h =
     let m : ℕ = r.lunation in
     let one : m + 1 ≡ suc m = add-one m in

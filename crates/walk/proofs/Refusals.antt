@@ -1,5 +1,8 @@
 -- The number that a walk returns, as an equation on all inputs, and zero values with its refusal (01, "Numbers returned").
 -- Assumes nothing.
+use Rattle.std.specs.Prelude.{Result, Ok, Err}
+use Rattle.refusal.specs.Numbers.{answer_number}
+use Rattle.std.specs.Result.{result_unwrap_or}
 use mathlib.Core.Path.{◌≡◌, refl}
 use mathlib.Core.List.{List}
 use lib.IntN.{ℤ}
@@ -9,13 +12,12 @@ use Rattle.refusal.specs.declared.Refusal.{Refusal}
 use Rattle.walking.specs.Walk.{genuine}
 use Rattle.calendar.specs.Carries.{months}
 use Rattle.calendar.specs.declared.MonthRow.{MonthRow}
-use Rattle.walk.specs.Walked.{walked, walk_answer, walk_number, walk_values, zero_walk}
-use Rattle.walk.specs.declared.WalkAnswer.{WalkAnswer}
+use Rattle.walk.specs.Walked.{walked, walk_answer, zero_walk}
 
-pub walk_numbers : (r : MonthRow) (cs : List ℤ) → walk_number (walk_answer r cs) ≡ pick (genuine months r) 0 4
-walk_numbers r cs = through walk_number (genuine months r) (WalkAnswer.Answered (walked r cs)) (WalkAnswer.Refused Refusal.Row)
+pub walk_numbers : (r : MonthRow) (cs : List ℤ) → answer_number (walk_answer r cs) ≡ pick (genuine months r) 0 4
+walk_numbers r cs = through answer_number (genuine months r) (Ok (walked r cs)) (Err Refusal.Row)
 
 -- where the number is not 0, the values are all zero
-pub walk_zero : (a : WalkAnswer) → ¬ (walk_number a ≡ 0) → walk_values a ≡ zero_walk
-walk_zero (WalkAnswer.Answered w) h = absurd (h refl)
-walk_zero (WalkAnswer.Refused e) h = refl
+pub walk_zero : (a : Result Walked Refusal) → ¬ (answer_number a ≡ 0) → result_unwrap_or a zero_walk ≡ zero_walk
+walk_zero (Ok w) h = absurd (h refl)
+walk_zero (Err e) h = refl

@@ -1,23 +1,22 @@
 -- What the code of a calendar's `carry` finds, one lemma for each way through it, and the turns of the loop of `walk_months`.
 -- Assumes nothing.
+use Rattle.std.specs.Prelude.{Ok, Err, Some, None}
+use Rattle.refusal.specs.declared.Refusal.{Refusal}
 use Rattle.std.proofs.Common.{◌≡◌, ℕ, ◌+◌, ◌<◌, ◌≤◌, Bool, true, false, ◌&&◌, ltb, List, [], ◌∷◌, length, get_or, drop, ℤ, pos, negsuc, ◌+ℤ◌, nat_abs, sym, refl, ap, ◌∙◌, add-zero, le_antisymm, add-one, arith, drop-cons, ltb-true, le-ltb, lt-ltb}
 use lib.Seq.{drop-length}
 use Rattle.reckoning.specs.Search.{pick}
-use Rattle.refusal.specs.declared.Refusal.{Refusal}
-use Rattle.walking.specs.Walk.{Calendar, answered, refused, in_round, carry_from}
+use Rattle.walking.specs.Walk.{Calendar, in_round, carry_from}
 use Rattle.walking.specs.Fields.{row_on}
 use Rattle.walking.specs.Paper.{next, final_month, answered_steps}
 use Rattle.walking.specs.Signed.{target_of, landing_of}
-use Rattle.walking.specs.declared.Target.{Target}
-use Rattle.walking.specs.declared.Landing.{Landing}
 use Rattle.walking.proofs.Walks.{and_both}
 
 -- a month is reached only inside the round
-reached : (b : Bool) (n k : ℕ) → Target.Month k ≡ pick b (Target.Month n) Target.Outside → (b ≡ true) × (n ≡ k)
+reached : (b : Bool) (n k : ℕ) → Some k ≡ pick b (Some n) None → (b ≡ true) × (n ≡ k)
 reached true n k e = (refl, cc)
 reached false n k e = let bad : ◌≡◌ {A = ℕ} 0 1 = cc in absurd (omega arith)
 
-passed : (b : Bool) (n : ℕ) → Target.Outside ≡ pick b (Target.Month n) Target.Outside → b ≡ false
+passed : (b : Bool) (n : ℕ) → None ≡ pick b (Some n) None → b ≡ false
 passed true n e = cc
 passed false n e = refl
 
@@ -42,19 +41,19 @@ module _ (size m : ℕ) (same : Bool) where
 
 -- where a count leads is where its carry lands, once what is handed in has passed
 module _ (size m : ℕ) (c : ℤ) where
-  pub landing_month : (k : ℕ) → Target.Month k ≡ target_of size (pos m +ℤ c) → Landing.Month k ≡ landing_of size true m c
+  pub landing_month : (k : ℕ) → Some k ≡ target_of size (pos m +ℤ c) → Ok k ≡ landing_of size true m c
   landing_month k e =
       let p = reached (in_round size (pos m +ℤ c)) (nat_abs (pos m +ℤ c)) k e in
       rw (p.0, p.1) refl
 
-  pub landing_outside : Target.Outside ≡ target_of size (pos m +ℤ c) → Landing.Refused Refusal.Carry ≡ landing_of size true m c
+  pub landing_outside : None ≡ target_of size (pos m +ℤ c) → Err Refusal.Carry ≡ landing_of size true m c
   landing_outside e = rw (passed (in_round size (pos m +ℤ c)) (nat_abs (pos m +ℤ c)) e) refl
 
   -- a month that it lands on is one of the round
-  pub landed_below : (ok : Bool) (k : ℕ) → Landing.Month k ≡ landing_of size ok m c → k < size
+  pub landed_below : (ok : Bool) (k : ℕ) → Ok k ≡ landing_of size ok m c → k < size
   landed_below true k e = go (in_round size (pos m +ℤ c)) refl e
     where
-      go : (b : Bool) → in_round size (pos m +ℤ c) ≡ b → Landing.Month k ≡ pick b (Landing.Month (nat_abs (pos m +ℤ c))) (Landing.Refused Refusal.Carry) → k < size
+      go : (b : Bool) → in_round size (pos m +ℤ c) ≡ b → Ok k ≡ pick b (Ok (nat_abs (pos m +ℤ c))) (Err Refusal.Carry) → k < size
       go true t e = let q : k ≡ nat_abs (pos m +ℤ c) = cc in omega (arith, q, inside size (pos m +ℤ c) t)
       go false t e = let bad : ◌≡◌ {A = ℕ} 0 1 = cc in absurd (omega arith)
   landed_below false k e = let bad : ◌≡◌ {A = ℕ} 0 1 = cc in absurd (omega arith)
@@ -63,7 +62,7 @@ module _ (size m : ℕ) (c : ℤ) where
 pub landed : {R : Type 0} (C : Calendar R) (ok : Bool) (m : ℕ) (c : ℤ) → row_on C (landing_of C.size ok m c) ≡ carry_from C ok m c
 landed C true m c = go (in_round C.size (pos m +ℤ c))
   where
-    go : (b : Bool) → row_on C (pick b (Landing.Month (nat_abs (pos m +ℤ c))) (Landing.Refused Refusal.Carry)) ≡ pick b (answered (C.row (nat_abs (pos m +ℤ c)))) (refused Refusal.Carry)
+    go : (b : Bool) → row_on C (pick b (Ok (nat_abs (pos m +ℤ c))) (Err Refusal.Carry)) ≡ pick b (Ok (C.row (nat_abs (pos m +ℤ c)))) (Err Refusal.Carry)
     go true = refl
     go false = refl
 landed C false m c = refl
@@ -113,12 +112,12 @@ module _ (size m : ℕ) (cs : List ℤ) where
           hits = omega (arith, hits, ap (λ (t : Bool). pick t 1 0 + answered_steps size (pick t (nat_abs leads) k) (drop (i + 1) cs)) e);
         }
 
-    pub on_month : (j : ℕ) → i < length cs → Target.Month j ≡ target_of size leads → SoFar size m cs j (n + 1) (i + 1)
+    pub on_month : (j : ℕ) → i < length cs → Some j ≡ target_of size leads → SoFar size m cs j (n + 1) (i + 1)
     on_month j h e =
         let p = reached (in_round size leads) (nat_abs leads) j e in
         rw p.1 at (on true h p.0 (inside size leads p.0))
 
-    pub on_outside : i < length cs → Target.Outside ≡ target_of size leads → SoFar size m cs k n (i + 1)
+    pub on_outside : i < length cs → None ≡ target_of size leads → SoFar size m cs k n (i + 1)
     on_outside h e = rw add-zero at (on false h (passed (in_round size leads) (nat_abs leads) e) s.in_round_lem)
 
     pub at_end : length cs ≤ i → (k ≡ final_month size m cs) × (n ≡ answered_steps size m cs)

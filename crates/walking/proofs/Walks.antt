@@ -1,10 +1,11 @@
 -- What holds of carries and walks, of any calendar of a round that keeps three laws.
 -- Assumes nothing.
+use Rattle.std.specs.Prelude.{Result, Ok, Err}
+use Rattle.refusal.specs.declared.Refusal.{Refusal}
 use Rattle.std.proofs.Common.{◌≡◌, ℕ, ◌+◌, ◌<◌, Bool, true, false, ◌&&◌, ltb, ◌⊎◌, ◌↔◌, List, [], ◌∷◌, ◌++◌, ℤ, pos, negsuc, ◌+ℤ◌, neg_ℤ, nat_abs, ◌≤ℤ◌, ◌<ℤ◌, sym, refl, ap, ◌∙◌, inl, inr, ⊎_elim, zero-le, arith, le→leb, ltb→lt, lt→ltb, ltb-true, lt-ltb}
 use lib.IntN.{+ℤ_idl, +ℤ_idr, +ℤ_assoc, +ℤ-neg_ℤ_cancel}
 use Rattle.reckoning.specs.Search.{pick}
-use Rattle.refusal.specs.declared.Refusal.{Refusal}
-use Rattle.walking.specs.Walk.{Calendar, Answer, answered, refused, in_round, genuine, landing, carry, stand, walk, along, total, number}
+use Rattle.walking.specs.Walk.{Calendar, in_round, genuine, landing, carry, stand, walk, along, total, number}
 use Rattle.walking.specs.Paper.{next, final_month, answered_steps, paper}
 
 -- z is a month's number: 0 ≤ z < size, in whole numbers
@@ -42,13 +43,13 @@ module _ {R : Type 0} (C : Calendar R) where
   record Moved (m : ℕ) (c : ℤ) : Type 0 where
     pub to : next C.size m c < C.size
     pub sum : pos (next C.size m c) ≡ pos m +ℤ c
-    pub gives : carry C (C.row m) c ≡ answered (C.row (next C.size m c))
+    pub gives : carry C (C.row m) c ≡ Ok (C.row (next C.size m c))
     pub test : in_round C.size (pos m +ℤ c) ≡ true
 
   record Stopped (m : ℕ) (c : ℤ) : Type 0 where
     pub outside : Inside C.size (pos m +ℤ c) → ⊥
     pub stay : next C.size m c ≡ m
-    pub gives : carry C (C.row m) c ≡ refused Refusal.Carry
+    pub gives : carry C (C.row m) c ≡ Err Refusal.Carry
     pub test : in_round C.size (pos m +ℤ c) ≡ false
 
   -- a walk over two lists is a walk over the first and then one over the second; a refused carry leaves it where it stood
@@ -57,7 +58,7 @@ module _ {R : Type 0} (C : Calendar R) where
   walk_append [] bs r = refl
   walk_append (p ∷ ps) bs r = walk_append ps bs (stand r (carry C r p))
 
-  pub stays : (ps : List ℤ) (c : ℤ) (e : Refusal) (r : R) → carry C (walk C r ps) c ≡ refused e → walk C r (ps ++ c ∷ []) ≡ walk C r ps
+  pub stays : (ps : List ℤ) (c : ℤ) (e : Refusal) (r : R) → carry C (walk C r ps) c ≡ Err e → walk C r (ps ++ c ∷ []) ≡ walk C r ps
   unfolding walk
   stays ps c e r h = walk_append ps (c ∷ []) r ∙ rw h
 
@@ -74,7 +75,7 @@ module _ {R : Type 0} (C : Calendar R) where
     carry_row : (m : ℕ) → m < C.size → (c : ℤ) → carry C (C.row m) c ≡ landing C (pos m +ℤ c)
     carry_row m h c = rw (row_genuine m h, L.month_row_lem m h)
 
-    landing_at : (n : ℕ) → n < C.size → landing C (pos n) ≡ answered (C.row n)
+    landing_at : (n : ℕ) → n < C.size → landing C (pos n) ≡ Ok (C.row n)
     landing_at n h = rw (lt-ltb n C.size h)
 
     -- each carry from a month of the round
@@ -94,10 +95,10 @@ module _ {R : Type 0} (C : Calendar R) where
             })
 
     -- REFUSAL 4 is given for every row that is not genuine, and for no genuine row
-    pub four : (r : R) (c : ℤ) → (carry C r c ≡ refused Refusal.Row) ↔ (genuine C r ≡ false)
+    pub four : (r : R) (c : ℤ) → (carry C r c ≡ Err Refusal.Row) ↔ (genuine C r ≡ false)
     four r c = (λ e. go (genuine C r) (in_round C.size (pos (C.month r) +ℤ c)) (C.row (nat_abs (pos (C.month r) +ℤ c))) e, λ e. rw e)
       where
-        go : (b d : Bool) (s : R) → pick b (pick d (answered s) (refused Refusal.Carry)) (refused Refusal.Row) ≡ refused Refusal.Row → b ≡ false
+        go : (b d : Bool) (s : R) → pick b (pick d (Ok s) (Err Refusal.Carry)) (Err Refusal.Row) ≡ Err Refusal.Row → b ≡ false
         go true true s e = let bad : ◌≡◌ {A = ℕ} 0 1 = cc in absurd (omega arith)
         go true false s e = let bad : ◌≡◌ {A = ℕ} 0 1 = cc in absurd (omega arith)
         go false d s e = refl
@@ -116,12 +117,12 @@ module _ {R : Type 0} (C : Calendar R) where
     kept (c ∷ cs) m h = ⊎_elim (moved (kept cs)) (stopped (kept cs m h)) (step m h c)
       where
         -- the first answer is where the count leads, and the rest are those from there
-        each_answer : (n : ℕ) (a : Answer R) → carry C (C.row m) c ≡ a → along C (stand (C.row m) a) cs ≡ paper C n cs →
+        each_answer : (n : ℕ) (a : Result R Refusal) → carry C (C.row m) c ≡ a → along C (stand (C.row m) a) cs ≡ paper C n cs →
             carry C (C.row m) c ∷ along C (stand (C.row m) (carry C (C.row m) c)) cs ≡ landing C (pos m +ℤ c) ∷ paper C n cs
         each_answer n a g e =
-            ap (λ (x : Answer R). x ∷ along C (stand (C.row m) x) cs) g
-            ∙ ap (λ (l : List (Answer R)). a ∷ l) e
-            ∙ ap (λ (x : Answer R). x ∷ paper C n cs) (sym g ∙ carry_row m h c)
+            ap (λ (x : Result R Refusal). x ∷ along C (stand (C.row m) x) cs) g
+            ∙ ap (λ (l : List (Result R Refusal)). a ∷ l) e
+            ∙ ap (λ (x : Result R Refusal). x ∷ paper C n cs) (sym g ∙ carry_row m h c)
 
         -- a count is counted where it is answered
         counts : {a b : Bool} → a ≡ b → pick a 1 0 + answered_steps C.size (next C.size m c) cs ≡ pick b 1 0 + answered_steps C.size (next C.size m c) cs
@@ -133,7 +134,7 @@ module _ {R : Type 0} (C : Calendar R) where
             record {
               to = t.to;
               row = rw s.gives t.row;
-              answers = each_answer (next C.size m c) (answered (C.row (next C.size m c))) s.gives t.answers;
+              answers = each_answer (next C.size m c) (Ok (C.row (next C.size m c))) s.gives t.answers;
               sum = rw s.gives (t.sum ∙ rw s.sum (+ℤ_assoc (pos m) c (total C (C.row (next C.size m c)) cs)));
               hits = rw s.gives (ap (λ (n : ℕ). 1 + n) t.hits ∙ counts (sym s.test));
             }
@@ -143,7 +144,7 @@ module _ {R : Type 0} (C : Calendar R) where
             record {
               to = rw s.stay t.to;
               row = rw (s.gives, s.stay) t.row;
-              answers = each_answer (next C.size m c) (refused Refusal.Carry) s.gives (rw s.stay t.answers);
+              answers = each_answer (next C.size m c) (Err Refusal.Carry) s.gives (rw s.stay t.answers);
               sum = rw (s.gives, s.stay) (t.sum ∙ ap (λ z. pos m +ℤ z) (sym (+ℤ_idl (total C (C.row m) cs))));
               hits = rw s.gives (ap (λ (n : ℕ). 0 + n) (t.hits ∙ rw s.stay) ∙ counts (sym s.test));
             }
@@ -159,14 +160,14 @@ module _ {R : Type 0} (C : Calendar R) where
       carries : (c : ℤ) → carry C r c ≡ landing C (pos (C.month r) +ℤ c)
       carries c = rw g
 
-      pub nought : carry C r (pos 0) ≡ answered r
-      nought = carries (pos 0) ∙ ap (landing C) (+ℤ_idr (pos (C.month r))) ∙ landing_at (C.month r) from ∙ ap answered (sym is_row)
+      pub nought : carry C r (pos 0) ≡ Ok r
+      nought = carries (pos 0) ∙ ap (landing C) (+ℤ_idr (pos (C.month r))) ∙ landing_at (C.month r) from ∙ ap Ok (sym is_row)
 
-      pub refused_outside : (c : ℤ) → (carry C r c ≡ refused Refusal.Carry) ↔ (Inside C.size (pos (C.month r) +ℤ c) → ⊥)
+      pub refused_outside : (c : ℤ) → (carry C r c ≡ Err Refusal.Carry) ↔ (Inside C.size (pos (C.month r) +ℤ c) → ⊥)
       refused_outside c = ⊎_elim moved stopped (step (C.month r) from c)
         where
           Says : Type 0
-          Says = (carry C r c ≡ refused Refusal.Carry) ↔ (Inside C.size (pos (C.month r) +ℤ c) → ⊥)
+          Says = (carry C r c ≡ Err Refusal.Carry) ↔ (Inside C.size (pos (C.month r) +ℤ c) → ⊥)
 
           same : carry C r c ≡ carry C (C.row (C.month r)) c
           same = ap (λ s. carry C s c) is_row
@@ -180,13 +181,13 @@ module _ {R : Type 0} (C : Calendar R) where
           stopped : Stopped (C.month r) c → Says
           stopped s = (λ e. s.outside, λ out. same ∙ s.gives)
 
-      pub back : (c : ℤ) (s : R) → carry C r c ≡ answered s → carry C s (neg_ℤ c) ≡ answered r
+      pub back : (c : ℤ) (s : R) → carry C r c ≡ Ok s → carry C s (neg_ℤ c) ≡ Ok r
       back c s e = ⊎_elim moved stopped (step (C.month r) from c)
         where
-          here : carry C (C.row (C.month r)) c ≡ answered s
+          here : carry C (C.row (C.month r)) c ≡ Ok s
           here = rw is_row at e
 
-          moved : Moved (C.month r) c → carry C s (neg_ℤ c) ≡ answered r
+          moved : Moved (C.month r) c → carry C s (neg_ℤ c) ≡ Ok r
           moved t =
               let n : ℕ = next C.size (C.month r) c in
               let q : s ≡ C.row n = cc (here, t.gives) in
@@ -195,7 +196,7 @@ module _ {R : Type 0} (C : Calendar R) where
               ∙ ap (λ z. landing C (z +ℤ neg_ℤ c)) t.sum
               ∙ ap (landing C) (+ℤ-neg_ℤ_cancel (pos (C.month r)) c)
               ∙ landing_at (C.month r) from
-              ∙ ap answered (sym is_row)
+              ∙ ap Ok (sym is_row)
 
-          stopped : Stopped (C.month r) c → carry C s (neg_ℤ c) ≡ answered r
+          stopped : Stopped (C.month r) c → carry C s (neg_ℤ c) ≡ Ok r
           stopped t = let bad : ◌≡◌ {A = ℕ} 0 1 = cc (here, t.gives) in absurd (omega arith)

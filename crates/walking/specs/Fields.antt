@@ -1,9 +1,9 @@
 -- Rows as lists of numbers: so others are handed rows, and hand them in.
 -- Assumes nothing.
-use Rattle.std.specs.Prelude.{ℕ, Bool, cond, ◌&&◌, List, ℤ, nat_eq, nat_lt, slice_index}
+use Rattle.std.specs.Prelude.{Result, Ok, Err, ℕ, Bool, cond, ◌&&◌, List, ℤ, nat_eq, nat_lt, slice_index}
+use Rattle.refusal.specs.declared.Refusal.{Refusal}
 use Rattle.reckoning.specs.Search.{all}
-use Rattle.walking.specs.Walk.{Calendar, Answer, answered, refused, carry_from}
-use Rattle.walking.specs.declared.Landing.{Landing}
+use Rattle.walking.specs.Walk.{Calendar, carry_from}
 
 -- yes is 1 and no is 0
 abbrev pub bit_of : Bool → ℕ
@@ -23,10 +23,10 @@ module _ {R : Type 0} (C : Calendar R) (n : ℕ) (fields : R → List ℕ) where
   abbrev pub genuine_by : List ℕ → Bool
   genuine_by f = nat_lt (named_month f) C.size && same_fields n f (fields (C.row (named_month f)))
 
-  abbrev pub carried_by : List ℕ → ℤ → Answer R
+  abbrev pub carried_by : List ℕ → ℤ → Result R Refusal
   carried_by f c = carry_from C (genuine_by f) (named_month f) c
 
 -- the row of the month on which a carry lands; refused as the carry is
-abbrev pub row_on : {R : Type 0} → Calendar R → Landing → Answer R
-row_on C (Landing.Month k) = answered (C.row k)
-row_on C (Landing.Refused e) = refused e
+abbrev pub row_on : {R : Type 0} → Calendar R → Result ℕ Refusal → Result R Refusal
+row_on C (Ok k) = Ok (C.row k)
+row_on C (Err e) = Err e

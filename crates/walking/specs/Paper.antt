@@ -1,9 +1,10 @@
 -- 01's own walk (01, "Walks"), which keeps only the month k: if k + c is a month of the round, k becomes it and the answer is the row
 -- worked out from the origin for k; otherwise refusal 5, and k stays.
 -- Assumes nothing.
-use Rattle.std.specs.Prelude.{ℕ, ◌+◌, List, [], ◌∷◌, ℤ, pos, ◌+ℤ◌, ◌-ℤ◌, unsigned_abs}
+use Rattle.std.specs.Prelude.{Result, ℕ, ◌+◌, List, [], ◌∷◌, ℤ, pos, ◌+ℤ◌, ◌-ℤ◌, unsigned_abs}
+use Rattle.refusal.specs.declared.Refusal.{Refusal}
 use Rattle.reckoning.specs.Search.{pick}
-use Rattle.walking.specs.Walk.{Calendar, Answer, in_round, landing}
+use Rattle.walking.specs.Walk.{Calendar, in_round, landing}
 use Rattle.walking.specs.declared.Steps.{Steps}
 use Rattle.walking.specs.declared.Arrival.{Arrival}
 
@@ -28,6 +29,6 @@ module _ (size : ℕ) where
   arrival_of k cs = record { month = final_month k cs; sum = pos (final_month k cs) -ℤ pos k; answered = answered_steps k cs }
 
 -- its answers in order
-unfoldable pub paper : {R : Type 0} → Calendar R → ℕ → List ℤ → List (Answer R)
+unfoldable pub paper : {R : Type 0} → Calendar R → ℕ → List ℤ → List (Result R Refusal)
 paper C k [] = []
 paper C k (c ∷ cs) = landing C (pos k +ℤ c) ∷ paper C (next C.size k c) cs

@@ -1,8 +1,8 @@
 -- Rows carried by signed counts, and walks (01, "Walks"), over any calendar of a round: a row for each month below the round's size.
 -- Assumes nothing.
-use Rattle.std.specs.Prelude.{◌≡◌, ℕ, ◌+◌, ◌<◌, Bool, false, ◌&&◌, List, [], ◌∷◌, ℤ, pos, negsuc, ◌+ℤ◌, nat_lt, unsigned_abs}
-use Rattle.reckoning.specs.Search.{pick}
+use Rattle.std.specs.Prelude.{Result, Ok, Err, ◌≡◌, ℕ, ◌+◌, ◌<◌, Bool, false, ◌&&◌, List, [], ◌∷◌, ℤ, pos, negsuc, ◌+ℤ◌, nat_lt, unsigned_abs}
 use Rattle.refusal.specs.declared.Refusal.{Refusal}
+use Rattle.reckoning.specs.Search.{pick}
 
 -- a calendar of a round: its size, the row of a month, the month that a row names, and a test of two rows for being the same
 pub record Calendar (R : Type 0) : Type 0 where
@@ -10,11 +10,6 @@ pub record Calendar (R : Type 0) : Type 0 where
   pub row : ℕ → R
   pub month : R → ℕ
   pub same : R → R → Bool
-
--- what a carry answers
-pub data Answer (R : Type 0) : Type 0 where
-  answered : R → Answer R
-  refused : Refusal → Answer R
 
 -- z is a month of the round
 abbrev pub in_round : ℕ → ℤ → Bool
@@ -32,37 +27,37 @@ module _ {R : Type 0} where
     pub is_row : r ≡ C.row (C.month r)
 
   -- the row worked out from the origin for month z, or refusal 5 where z is no month of the round
-  abbrev pub landing : Calendar R → ℤ → Answer R
-  landing C z = pick (in_round C.size z) (answered (C.row (unsigned_abs z))) (refused Refusal.Carry)
+  abbrev pub landing : Calendar R → ℤ → Result R Refusal
+  landing C z = pick (in_round C.size z) (Ok (C.row (unsigned_abs z))) (Err Refusal.Carry)
 
   -- a carry of what is handed in for the row of month m: refusal 4 where that is not genuine; else the row so many months on, in whole numbers
-  abbrev pub carry_from : Calendar R → Bool → ℕ → ℤ → Answer R
-  carry_from C ok m c = pick ok (landing C (pos m +ℤ c)) (refused Refusal.Row)
+  abbrev pub carry_from : Calendar R → Bool → ℕ → ℤ → Result R Refusal
+  carry_from C ok m c = pick ok (landing C (pos m +ℤ c)) (Err Refusal.Row)
 
   -- a carry of a row
-  abbrev pub carry : Calendar R → R → ℤ → Answer R
+  abbrev pub carry : Calendar R → R → ℤ → Result R Refusal
   carry C r c = carry_from C (genuine C r) (C.month r) c
 
   -- the row that the next carry is handed: the one answered, or, refused, the one before
-  abbrev pub stand : R → Answer R → R
-  stand r (answered s) = s
-  stand r (refused e) = r
+  abbrev pub stand : R → Result R Refusal → R
+  stand r (Ok s) = s
+  stand r (Err e) = r
 
   -- what an answer adds to the sum of the answered counts, and to their number
-  abbrev pub counted : ℤ → Answer R → ℤ
-  counted c (answered s) = c
-  counted c (refused e) = pos 0
+  abbrev pub counted : ℤ → Result R Refusal → ℤ
+  counted c (Ok s) = c
+  counted c (Err e) = pos 0
 
-  abbrev pub one : Answer R → ℕ
-  one (answered s) = 1
-  one (refused e) = 0
+  abbrev pub one : Result R Refusal → ℕ
+  one (Ok s) = 1
+  one (Err e) = 0
 
   -- a walk over a list of counts: its last row, its answers in order, the sum of the answered counts, and how many were answered
   unfoldable pub walk : Calendar R → R → List ℤ → R
   walk C r [] = r
   walk C r (c ∷ cs) = walk C (stand r (carry C r c)) cs
 
-  unfoldable pub along : Calendar R → R → List ℤ → List (Answer R)
+  unfoldable pub along : Calendar R → R → List ℤ → List (Result R Refusal)
   along C r [] = []
   along C r (c ∷ cs) = carry C r c ∷ along C (stand r (carry C r c)) cs
 

@@ -26,13 +26,6 @@ pub fn sign_of(count: i64) -> Sign
     }
 }
 
-// Where a count leads: to a month of the round, or outside.
-#[derive(Clone, Copy)]
-pub enum Target {
-    Month(u64),
-    Outside,
-}
-
 // A count as the unsigned number with the same 64 bits.
 fn bits_of(count: i64) -> u64
     ensures { result ≡ bits_of count }
@@ -45,38 +38,23 @@ fn bits_of(count: i64) -> u64
 
 // The month so many months on from a month of a round of that size, in whole numbers. A sum below 0 wraps to 2^63 or more, past every
 // round, so that one comparison tells both sides and the compiler needs no jump.
-pub fn reach(size: u64, month: u64, count: i64) -> Target
+pub fn reach(size: u64, month: u64, count: i64) -> Option<u64>
     requires { (month < size) × (size ≤ 9223372036854775808) }
     ensures { result ≡ target_of size (pos month +ℤ count) }
 {
     let to = std::num::wrapping_add_u64(month, bits_of(count));
-    if to < size {
-        Target::Month(to)
-    } else {
-        Target::Outside
-    }
-}
-
-// What a carry comes to: a month of the round, or why it is refused.
-#[derive(Clone, Copy)]
-pub enum Landing {
-    Month(u64),
-    Refused(Refusal),
+    if to < size { Some(to) } else { None }
 }
 
 // A carry from a month, where what was handed in for its row is genuine or isn't.
-pub fn land(size: u64, genuine: bool, month: u64, count: i64) -> Landing
+pub fn land(size: u64, genuine: bool, month: u64, count: i64) -> Result<u64, Refusal>
     requires { (genuine ≡ true → month < size) × (size ≤ 9223372036854775808) }
     ensures { result ≡ landing_of size genuine month count }
 {
-    if genuine {
-        match reach(size, month, count) {
-            Target::Month(k) => Landing::Month(k),
-            Target::Outside => Landing::Refused(Refusal::Carry),
-        }
-    } else {
-        Landing::Refused(Refusal::Row)
+    if !genuine {
+        return Err(Refusal::Row);
     }
+    reach(size, month, count).ok_or(Refusal::Carry)
 }
 
 // How many months one month lies after another, in whole numbers.
@@ -110,11 +88,11 @@ pub fn walk_months(size: u64, from: u64, counts: &[i64]) -> Steps
         let count = counts[i];
         i += 1;
         match reach(size, month, count) {
-            Target::Month(k) => {
+            Some(k) => {
                 month = k;
                 answered += 1;
             }
-            Target::Outside => {}
+            None => {}
         }
     }
     Steps { month, answered }

@@ -1,5 +1,6 @@
 -- The lent list with the year's first k rows at its front: how long it is, and what the numbers of one row more do to it.
 -- Assumes nothing.
+use Rattle.std.specs.Result.{result_unwrap_or}
 use mathlib.Core.List.{List, ◌++◌}
 use mathlib.Core.Path.{◌≡◌, refl, sym, ◌∙◌, ap}
 use Prim.Native.Nat.{ℕ, zero, suc, ◌+◌, ◌*◌, ◌/◌, ◌≤◌}
@@ -9,12 +10,12 @@ use native.Mathlib.Omega.{arith}
 use lib.ListN.{length, drop, length-append, length-drop}
 use lib.Seq.{paste, take_at, drop-append-add, drop-drop}
 use Rattle.calendar.specs.Rows.{field_count, row_fields}
-use Rattle.year_list.specs.Filled.{row_at, rows_from, written}
+use Rattle.year_list.specs.Filled.{row_at, rows_from}
 use Rattle.year_list.proofs.Fronts.{within}
 use Rattle.xinghe.specs.Years.{rows_fields, fill_answer_in, front_fields}
 
 -- the list holds the rows that are written
-pub holds : (n have : ℕ) → field_count * written (fill_answer_in n have) ≤ have
+pub holds : (n have : ℕ) → field_count * result_unwrap_or (fill_answer_in n have) 0 ≤ have
 holds n have = omega (arith, within n (have / field_count))
 
 fields_length : (n p k : ℕ) → length (rows_fields (rows_from n p k)) ≡ field_count * k

@@ -1,11 +1,12 @@
 -- What the two numbers that xinghe_label writes mean to its caller.
 -- Assumes nothing.
+use Rattle.refusal.specs.Numbers.{answer_number}
 use mathlib.Core.Path.{◌≡◌, refl}
 use mathlib.Core.List.{List}
 use Prim.Native.Nat.{ℕ, zero, suc, ◌+◌}
 use native.Mathlib.Omega.{arith}
 use lib.ListN.{get_or}
-use Rattle.names.specs.Names.{name_bytes, Bytes, size, slice, location_number, name_from, label_location, label_of, label_number}
+use Rattle.names.specs.Names.{name_bytes, Bytes, size, slice, name_from, label_location, label_of, label_number}
 use Rattle.names.proofs.Locations.{location_cases}
 use Rattle.fields.specs.Fields.{location_fields}
 
@@ -22,7 +23,7 @@ six_bytes out theirs house = slice (numbered (get_or out 0 0) theirs house) (get
 -- ANSWERED, THEY ARE THE LABEL
 pub located : (i : ℕ) (theirs house : Bytes) → label_number i theirs house ≡ 0 → six_bytes (location_fields (label_location i theirs house)) theirs house ≡ label_of i theirs house
 located i theirs house =
-    location_cases i (size theirs) (size house) (λ a. location_number a ≡ 0 → six_bytes (location_fields a) theirs house ≡ name_from a theirs house)
+    location_cases i (size theirs) (size house) (λ a. answer_number a ≡ 0 → six_bytes (location_fields a) theirs house ≡ name_from a theirs house)
     (λ _ _ _. refl)
     (λ _ _ _ _. refl)
     (λ _ _ _ q. absurd (omega (arith, q)))

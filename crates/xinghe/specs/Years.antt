@@ -1,12 +1,12 @@
 -- A whole year in a lent list of numbers.
 -- Assumes nothing.
-use Rattle.std.specs.Prelude.{List, [], ◌∷◌, ◌++◌, ℕ, ◌*◌, ◌/◌, length, drop}
+use Rattle.std.specs.Prelude.{Result, List, [], ◌∷◌, ◌++◌, ℕ, ◌*◌, ◌/◌, length, drop}
+use Rattle.refusal.specs.declared.Refusal.{Refusal}
+use Rattle.std.specs.Result.{result_unwrap_or}
 use Rattle.calendar.specs.Heads.{year_head}
 use Rattle.calendar.specs.Rows.{field_count, row_fields}
-use Rattle.calendar.specs.declared.HeadAnswer.{HeadAnswer}
 use Rattle.calendar.specs.declared.MonthRow.{MonthRow}
-use Rattle.year_list.specs.Filled.{rows_from, answer_for, written}
-use Rattle.year_list.specs.declared.FillAnswer.{FillAnswer}
+use Rattle.year_list.specs.Filled.{rows_from, answer_for}
 
 -- the numbers of rows, one row after the other
 unfoldable pub rows_fields : List MonthRow → List ℕ
@@ -14,11 +14,11 @@ rows_fields [] = []
 rows_fields (row ∷ rows) = row_fields row ++ rows_fields rows
 
 -- the answer for a year with that head and a list of that many numbers: it holds a row for each whole thirteen of them
-abbrev pub answer_in : HeadAnswer → ℕ → FillAnswer
+abbrev pub answer_in : Result YearHead Refusal → ℕ → Result ℕ Refusal
 answer_in head have = answer_for head (have / field_count)
 
 -- the answer for year n
-abbrev pub fill_answer_in : ℕ → ℕ → FillAnswer
+abbrev pub fill_answer_in : ℕ → ℕ → Result ℕ Refusal
 fill_answer_in n have = answer_in (year_head n) have
 
 -- the list with the year's first k rows at its front
@@ -27,4 +27,4 @@ front_fields n k xs = rows_fields (rows_from n 0 k) ++ drop (field_count * k) xs
 
 -- the list afterwards: the year's rows at the front, and the rest as it was; refused, all of it
 abbrev pub filled_fields : ℕ → List ℕ → List ℕ
-filled_fields n xs = front_fields n (written (fill_answer_in n (length xs))) xs
+filled_fields n xs = front_fields n (result_unwrap_or (fill_answer_in n (length xs)) 0) xs

@@ -3,28 +3,30 @@
 #![tactic(auto)]
 
 ghost use Rattle.std.specs.Prelude.{◌≡◌, [], ◌∷◌, length};
+ghost use Rattle.refusal.specs.Numbers.{answer_number};
+ghost use Rattle.std.specs.Result.{result_unwrap_or};
 ghost use Rattle.calendar.specs.Heads.{year_head};
 ghost use Rattle.calendar.specs.Rows.{row_fields, month_row};
 ghost use Rattle.calendar.specs.Dates.{day_of_date, date_of_day};
-ghost use Rattle.calendar.specs.Answers.{head_number, head_values, row_number, row_values};
-ghost use Rattle.lunisolar.specs.Answers.{day_number, day_values, date_number, date_values};
-ghost use Rattle.year_list.specs.Filled.{fill_number};
+ghost use Rattle.calendar.specs.Answers.{zero_head, zero_row};
+ghost use Rattle.lunisolar.specs.Answers.{zero_day, zero_date};
 ghost use Rattle.ephemeris.specs.Jobs.{phases_at, nodes_at, corrections_at, cut_point};
-ghost use Rattle.ephemeris.specs.Answers.{phases_number, phases_values, nodes_number, nodes_values, corrections_number, corrections_values, point_number, point_values};
+ghost use Rattle.ephemeris.specs.Answers.{zero_phases, zero_nodes, zero_corrections, zero_point};
 ghost use Rattle.names.specs.Names.{bytes_of, label_location, label_number};
 ghost use Rattle.names.specs.Ganzhi.{ganzhi};
 ghost use Rattle.planets.specs.Jobs.{conjunctions_at, stages_at};
-ghost use Rattle.planets.specs.Answers.{conjunctions_number, conjunctions_values, stages_number, stages_count};
+ghost use Rattle.planets.specs.Answers.{zero_conjunctions};
 ghost use Rattle.fields.specs.Fields.{conjunctions_fields, stages_fields, location_fields, head_fields, day_fields, date_fields, phases_fields, nodes_fields, corrections_fields, point_fields};
 ghost use Rattle.calendar.specs.Carries.{carried_fields};
-ghost use Rattle.walk.specs.Walked.{walk_answer_fields, walk_number, walk_values};
+ghost use Rattle.walk.specs.Walked.{walk_answer_fields, zero_walk};
 ghost use Rattle.fields.specs.Walks.{totals_fields};
 ghost use Rattle.xinghe.specs.Years.{fill_answer_in, filled_fields};
-ghost use Rattle.volumes.specs.Writer.{write_answer, after_write, write_number, written};
-ghost use Rattle.volumes.specs.Reader.{read_answer, read_number, read_years};
-ghost use Rattle.reigns.specs.Marked.{marked_answer, marked_number, marked_moons};
-ghost use Rattle.mending.specs.Mended.{mend_answer, after_mend, after_notes, mend_number, mend_count};
+ghost use Rattle.volumes.specs.Writer.{write_answer, after_write};
+ghost use Rattle.volumes.specs.Reader.{read_answer, read_years};
+ghost use Rattle.reigns.specs.Marked.{marked_answer, marked_moons};
+ghost use Rattle.mending.specs.Mended.{mend_answer, after_mend, after_notes};
 
+use refusal::Numbered;
 use calendar::rows::{FIELDS, RowFields};
 use mending::MOST_BLOCKS;
 
@@ -34,89 +36,89 @@ pub mod years;
 
 #[unsafe(no_mangle)]
 pub extern "C" fn xinghe_year_head(year: u64, out: &mut [u64; 6]) -> u64
-    ensures { (result ≡ head_number (year_head year)) × (out.new ≡ head_fields (head_values (year_head year))) }
+    ensures { (result ≡ answer_number (year_head year)) × (out.new ≡ head_fields (result_unwrap_or (year_head year) zero_head)) }
 {
     let answer = calendar::heads::year_head(year);
-    *out = fields::head_fields(answer.values());
+    *out = fields::head_fields(answer.unwrap_or_default());
     answer.number()
 }
 
 #[unsafe(no_mangle)]
 pub extern "C" fn xinghe_month_row(year: u64, place: u64, out: &mut RowFields) -> u64
-    ensures { (result ≡ row_number (month_row year place)) × (out.new ≡ row_fields (row_values (month_row year place))) }
+    ensures { (result ≡ answer_number (month_row year place)) × (out.new ≡ row_fields (result_unwrap_or (month_row year place) zero_row)) }
 {
     let answer = calendar::rows::month_row(year, place);
-    *out = answer.values().fields();
+    *out = answer.unwrap_or_default().fields();
     answer.number()
 }
 
 #[unsafe(no_mangle)]
 pub extern "C" fn xinghe_day_of_date(year: u64, place: u64, day: u64, out: &mut [u64; 2]) -> u64
-    ensures { (result ≡ day_number (day_of_date year place day)) × (out.new ≡ day_fields (day_values (day_of_date year place day))) }
+    ensures { (result ≡ answer_number (day_of_date year place day)) × (out.new ≡ day_fields (result_unwrap_or (day_of_date year place day) zero_day)) }
 {
     let answer = calendar::dates::day_of_date(year, place, day);
-    *out = fields::day_fields(answer.values());
+    *out = fields::day_fields(answer.unwrap_or_default());
     answer.number()
 }
 
 #[unsafe(no_mangle)]
 pub extern "C" fn xinghe_date_of_day(number: u64, out: &mut [u64; 3]) -> u64
-    ensures { (result ≡ date_number (date_of_day number)) × (out.new ≡ date_fields (date_values (date_of_day number))) }
+    ensures { (result ≡ answer_number (date_of_day number)) × (out.new ≡ date_fields (result_unwrap_or (date_of_day number) zero_date)) }
 {
     let answer = calendar::dates::date_of_day(number);
-    *out = fields::date_fields(answer.values());
+    *out = fields::date_fields(answer.unwrap_or_default());
     answer.number()
 }
 
 #[unsafe(no_mangle)]
 pub extern "C" fn xinghe_phases(year: u64, place: u64, out: &mut [u64; 12]) -> u64
-    ensures { (result ≡ phases_number (phases_at year place)) × (out.new ≡ phases_fields (phases_values (phases_at year place))) }
+    ensures { (result ≡ answer_number (phases_at year place)) × (out.new ≡ phases_fields (result_unwrap_or (phases_at year place) zero_phases)) }
 {
     let answer = ephemeris::phases(year, place);
-    *out = fields::phases_fields(answer.values());
+    *out = fields::phases_fields(answer.unwrap_or_default());
     answer.number()
 }
 
 #[unsafe(no_mangle)]
 pub extern "C" fn xinghe_nodes(year: u64, place: u64, out: &mut [u64; 15]) -> u64
-    ensures { (result ≡ nodes_number (nodes_at year place)) × (out.new ≡ nodes_fields (nodes_values (nodes_at year place))) }
+    ensures { (result ≡ answer_number (nodes_at year place)) × (out.new ≡ nodes_fields (result_unwrap_or (nodes_at year place) zero_nodes)) }
 {
     let answer = ephemeris::nodes(year, place);
-    *out = fields::nodes_fields(answer.values());
+    *out = fields::nodes_fields(answer.unwrap_or_default());
     answer.number()
 }
 
 #[unsafe(no_mangle)]
 pub extern "C" fn xinghe_corrections(year: u64, place: u64, out: &mut [u64; 14]) -> u64
-    ensures { (result ≡ corrections_number (corrections_at year place)) × (out.new ≡ corrections_fields (corrections_values (corrections_at year place))) }
+    ensures { (result ≡ answer_number (corrections_at year place)) × (out.new ≡ corrections_fields (result_unwrap_or (corrections_at year place) zero_corrections)) }
 {
     let answer = ephemeris::corrections(year, place);
-    *out = fields::corrections_fields(answer.values());
+    *out = fields::corrections_fields(answer.unwrap_or_default());
     answer.number()
 }
 
 #[unsafe(no_mangle)]
 pub extern "C" fn xinghe_cut_point(year: u64, cut: u64, index: u64, out: &mut [u64; 3]) -> u64
-    ensures { (result ≡ point_number (cut_point year cut index)) × (out.new ≡ point_fields (point_values (cut_point year cut index))) }
+    ensures { (result ≡ answer_number (cut_point year cut index)) × (out.new ≡ point_fields (result_unwrap_or (cut_point year cut index) zero_point)) }
 {
     let answer = ephemeris::cut_point(year, cut, index);
-    *out = fields::point_fields(answer.values());
+    *out = fields::point_fields(answer.unwrap_or_default());
     answer.number()
 }
 
 #[unsafe(no_mangle)]
 pub extern "C" fn xinghe_conjunctions(year: u64, planet: u64, out: &mut [u64; 10]) -> u64
-    ensures { (result ≡ conjunctions_number (conjunctions_at year planet)) × (out.new ≡ conjunctions_fields (conjunctions_values (conjunctions_at year planet))) }
+    ensures { (result ≡ answer_number (conjunctions_at year planet)) × (out.new ≡ conjunctions_fields (result_unwrap_or (conjunctions_at year planet) zero_conjunctions)) }
 {
     let answer = planets::conjunctions(year, planet);
-    *out = fields::conjunctions_fields(answer.values());
+    *out = fields::conjunctions_fields(answer.unwrap_or_default());
     answer.number()
 }
 
 // All stages of a planet, of ten numbers each, and how many there are.
 #[unsafe(no_mangle)]
 pub extern "C" fn xinghe_stages(planet: u64, count: &mut [u64; 1], out: &mut [[u64; 10]; 14]) -> u64
-    ensures { (result ≡ stages_number (stages_at planet).count) × (count.new ≡ stages_count (stages_at planet).count ∷ []) × (out.new ≡ stages_fields (stages_at planet).stages) }
+    ensures { (result ≡ answer_number (stages_at planet).count) × (count.new ≡ result_unwrap_or (stages_at planet).count 0 ∷ []) × (out.new ≡ stages_fields (stages_at planet).stages) }
 {
     let counted = planets::stage_count(planet);
     *count = [counted.value()];
@@ -146,10 +148,10 @@ pub extern "C" fn xinghe_ganzhi_names(out: &mut [u8; 360]) -> u64
 // `row` is thirteen numbers, refused under 4 unless they are a genuine row's.
 #[unsafe(no_mangle)]
 pub extern "C" fn xinghe_carry(row: &RowFields, count: i64, out: &mut RowFields) -> u64
-    ensures { (result ≡ row_number (carried_fields row.now count)) × (out.new ≡ row_fields (row_values (carried_fields row.now count))) }
+    ensures { (result ≡ answer_number (carried_fields row.now count)) × (out.new ≡ row_fields (result_unwrap_or (carried_fields row.now count) zero_row)) }
 {
     let answer = calendar::carries::carry_fields(row, count);
-    *out = answer.values().fields();
+    *out = answer.unwrap_or_default().fields();
     answer.number()
 }
 
@@ -161,10 +163,10 @@ pub extern "C" fn xinghe_walk(
     out: &mut RowFields,
     totals: &mut [u64; 3],
 ) -> u64
-    ensures { (result ≡ walk_number (walk_answer_fields row.now counts.now)) × (out.new ≡ row_fields (walk_values (walk_answer_fields row.now counts.now)).row) × (totals.new ≡ totals_fields (walk_values (walk_answer_fields row.now counts.now)).sum (walk_values (walk_answer_fields row.now counts.now)).answered) }
+    ensures { (result ≡ answer_number (walk_answer_fields row.now counts.now)) × (out.new ≡ row_fields (result_unwrap_or (walk_answer_fields row.now counts.now) zero_walk).row) × (totals.new ≡ totals_fields (result_unwrap_or (walk_answer_fields row.now counts.now) zero_walk).sum (result_unwrap_or (walk_answer_fields row.now counts.now) zero_walk).answered) }
 {
     let answer = walk::walk_fields(row, counts);
-    let end = answer.values();
+    let end = answer.unwrap_or_default();
     let last = end.row;
     *out = last.fields();
     *totals = fields::walks::totals_fields(end.sum, end.answered);
@@ -175,7 +177,7 @@ pub extern "C" fn xinghe_walk(
 // written.
 #[unsafe(no_mangle)]
 pub extern "C" fn xinghe_fill_year(year: u64, out: &mut [u64]) -> u64
-    ensures { (result ≡ fill_number (fill_answer_in year (length out.old))) × (out.new ≡ filled_fields year out.old) }
+    ensures { (result ≡ answer_number (fill_answer_in year (length out.old))) × (out.new ≡ filled_fields year out.old) }
 {
     let head = calendar::heads::year_head(year);
     let answer = years::answer_in(head, out.len());
@@ -200,7 +202,7 @@ pub extern "C" fn xinghe_write_volume(
     out: &mut [u8],
     count: &mut [u64; 1],
 ) -> u64
-    ensures { (result ≡ write_number (write_answer first last (length out.old))) × (out.new ≡ after_write first last out.old) × (count.new ≡ written (write_answer first last (length out.old)) ∷ []) }
+    ensures { (result ≡ answer_number (write_answer first last (length out.old))) × (out.new ≡ after_write first last out.old) × (count.new ≡ result_unwrap_or (write_answer first last (length out.old)) 0 ∷ []) }
 {
     let answer = volumes::writer::write(first, last, out);
     *count = [answer.count()];
@@ -210,7 +212,7 @@ pub extern "C" fn xinghe_write_volume(
 // The first and the last year of a volume.
 #[unsafe(no_mangle)]
 pub extern "C" fn xinghe_read_volume(volume: &[u8], years: &mut [u64; 2]) -> u64
-    ensures { (result ≡ read_number (read_answer volume.now)) × (years.new ≡ read_years (read_answer volume.now)) }
+    ensures { (result ≡ answer_number (read_answer volume.now)) × (years.new ≡ read_years (read_answer volume.now)) }
 {
     let answer = volumes::reader::read(volume);
     *years = answer.years();
@@ -220,7 +222,7 @@ pub extern "C" fn xinghe_read_volume(volume: &[u8], years: &mut [u64; 2]) -> u64
 // The marked new moons and the marked full moons from one year of a volume to another.
 #[unsafe(no_mangle)]
 pub extern "C" fn xinghe_marked(volume: &[u8], from: u64, to: u64, moons: &mut [u64; 2]) -> u64
-    ensures { (result ≡ marked_number (marked_answer volume.now from to)) × (moons.new ≡ marked_moons (marked_answer volume.now from to)) }
+    ensures { (result ≡ answer_number (marked_answer volume.now from to)) × (moons.new ≡ marked_moons (marked_answer volume.now from to)) }
 {
     let answer = reigns::marked(volume, from, to);
     *moons = answer.moons();
@@ -235,7 +237,7 @@ pub extern "C" fn xinghe_mend(
     damaged: &mut [u64; MOST_BLOCKS],
     count: &mut [u64; 1],
 ) -> u64
-    ensures { (result ≡ mend_number (mend_answer volume.old)) × (volume.new ≡ after_mend volume.old) × (damaged.new ≡ after_notes volume.old damaged.old) × (count.new ≡ mend_count (mend_answer volume.old) ∷ []) }
+    ensures { (result ≡ answer_number (mend_answer volume.old)) × (volume.new ≡ after_mend volume.old) × (damaged.new ≡ after_notes volume.old damaged.old) × (count.new ≡ result_unwrap_or (mend_answer volume.old) 0 ∷ []) }
 {
     let mended = mending::mend(volume, damaged);
     *count = [mended.count()];

@@ -1,5 +1,7 @@
 -- What stands in the lent list afterwards: each of the year's rows by place, and past them what stood there; and the numbers returned.
 -- Assumes nothing.
+use Rattle.std.specs.Prelude.{Ok, Err}
+use Rattle.refusal.specs.Numbers.{answer_number}
 use mathlib.Core.Path.{◌≡◌, ◌∙◌, ap}
 use mathlib.Core.List.{List, ◌++◌}
 use Prim.Native.Nat.{ℕ, zero, suc, ◌+◌, ◌-◌, ◌≤◌, ◌<◌}
@@ -19,21 +21,19 @@ use Rattle.calendar.specs.Heads.{head_of, head_for, year_head}
 use Rattle.calendar.specs.Rows.{row_of, row_for}
 use Rattle.calendar.specs.Answers.{zero_row}
 use Rattle.calendar.specs.declared.YearHead.{YearHead}
-use Rattle.calendar.specs.declared.HeadAnswer.{HeadAnswer}
 use Rattle.calendar.specs.declared.MonthRow.{MonthRow}
 use Rattle.calendar.proofs.Round.{head_months}
 use Rattle.units.proofs.Years.{of_year}
-use Rattle.year_list.specs.Filled.{answer_for, fill_answer, row_at, rows_from, to_write, filled, year_rows, fill_number}
-use Rattle.year_list.specs.declared.FillAnswer.{FillAnswer}
+use Rattle.year_list.specs.Filled.{answer_for, fill_answer, row_at, rows_from, to_write, filled, year_rows}
 use Rattle.year_list.proofs.Fronts.{rows_length}
 
 -- the numbers: 1 where the round has no such year, then 6 where the list is shorter than the year's month count
-pub fill_numbers : (n have : ℕ) → fill_number (fill_answer n have) ≡ pick (is_year n) (pick (leb (month_count rule (n - 1)) have) 0 6) 1
+pub fill_numbers : (n have : ℕ) → answer_number (fill_answer n have) ≡ pick (is_year n) (pick (leb (month_count rule (n - 1)) have) 0 6) 1
 unfolding head_for head_of answer_for
 fill_numbers n have =
-    of_year (λ a. fill_number (answer_for (head_for a) have)) n
+    of_year (λ a. answer_number (answer_for (head_for a) have)) n
     ∙ ap (λ (x : ℕ). pick (is_year n) x 1)
-    (through fill_number (leb (month_count rule (n - 1)) have) (FillAnswer.Filled (month_count rule (n - 1))) (FillAnswer.Refused Refusal.List))
+    (through answer_number (leb (month_count rule (n - 1)) have) (Ok (month_count rule (n - 1))) (Err Refusal.List))
 
 row_in : (n p k i : ℕ) (d : MonthRow) → i < k → get_or (rows_from n p k) i d ≡ row_at n (p + i)
 unfolding rows_from
@@ -71,12 +71,12 @@ module _ (y : ℕ) (rows : List MonthRow) (d : MonthRow) (in_round_lem : y < rou
       rows_len = omega (arith, rows_length (y + 1) 0 count)
 
 -- REFUSED, the list is found as it was lent
-pub untouched : (n : ℕ) (rows : List MonthRow) (e : Refusal) → fill_answer n (length rows) ≡ FillAnswer.Refused e → filled n rows ≡ rows
+pub untouched : (n : ℕ) (rows : List MonthRow) (e : Refusal) → fill_answer n (length rows) ≡ Err e → filled n rows ≡ rows
 unfolding rows_from
 untouched n rows e h = rw h
 
 -- A YEAR BY VALUE has the year's rows at its front
-pub front_rows : (n : ℕ) (head : YearHead) → HeadAnswer.Answered head ≡ year_head n → take head.months (year_rows n).rows ≡ rows_from n 0 head.months
+pub front_rows : (n : ℕ) (head : YearHead) → Ok head ≡ year_head n → take head.months (year_rows n).rows ≡ rows_from n 0 head.months
 unfolding answer_for
 front_rows n head e =
     let w : to_write n 13 ≡ head.months = rw (← e, le-leb head.months 13 (head_months n head e)) in

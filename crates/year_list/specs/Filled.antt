@@ -1,41 +1,34 @@
 -- A whole year in a lent list of rows (01, "Numbers returned").
 -- Assumes nothing.
-use Rattle.std.specs.Prelude.{List, [], ◌∷◌, ◌++◌, ℕ, zero, suc, leb, length, take, drop, replicate}
+use Rattle.std.specs.Prelude.{Result, Ok, Err, List, [], ◌∷◌, ◌++◌, ℕ, zero, suc, leb, length, take, drop, replicate}
+use Rattle.std.specs.Result.{result_unwrap_or}
 use Rattle.reckoning.specs.Search.{pick}
-use Rattle.refusal.specs.Numbers.{number_of}
 use Rattle.refusal.specs.declared.Refusal.{Refusal}
 use Rattle.calendar.specs.Heads.{year_head}
 use Rattle.calendar.specs.Rows.{month_row}
-use Rattle.calendar.specs.Answers.{row_values, zero_row}
-use Rattle.calendar.specs.declared.HeadAnswer.{HeadAnswer}
+use Rattle.calendar.specs.Answers.{zero_row}
 use Rattle.calendar.specs.declared.MonthRow.{MonthRow}
-use Rattle.year_list.specs.declared.FillAnswer.{FillAnswer}
 use Rattle.year_list.specs.declared.YearRows.{YearRows}
 
 -- a list of that many rows: refused under 1 where the round has no such year, then under 6 where the list is shorter than the year's month count
-unfoldable pub answer_for : HeadAnswer → ℕ → FillAnswer
-answer_for (HeadAnswer.Answered head) have = pick (leb head.months have) (FillAnswer.Filled head.months) (FillAnswer.Refused Refusal.List)
-answer_for (HeadAnswer.Refused e) have = FillAnswer.Refused e
+unfoldable pub answer_for : Result YearHead Refusal → ℕ → Result ℕ Refusal
+answer_for (Ok head) have = pick (leb head.months have) (Ok head.months) (Err Refusal.List)
+answer_for (Err e) have = Err e
 
-abbrev pub fill_answer : ℕ → ℕ → FillAnswer
+abbrev pub fill_answer : ℕ → ℕ → Result ℕ Refusal
 fill_answer n have = answer_for (year_head n) have
 
 -- the row at a place of a year
 abbrev pub row_at : ℕ → ℕ → MonthRow
-row_at n p = row_values (month_row n p)
+row_at n p = result_unwrap_or (month_row n p) zero_row
 
 -- the year's first k rows, by place from p on
 unfoldable pub rows_from : ℕ → ℕ → ℕ → List MonthRow
 rows_from n p zero = []
 rows_from n p (suc k) = row_at n p ∷ rows_from n (suc p) k
 
--- how many rows are written
-abbrev pub written : FillAnswer → ℕ
-written (FillAnswer.Filled k) = k
-written (FillAnswer.Refused e) = 0
-
 abbrev pub to_write : ℕ → ℕ → ℕ
-to_write n have = written (fill_answer n have)
+to_write n have = result_unwrap_or (fill_answer n have) 0
 
 -- the list afterwards: the year's rows at the front, and the rest as it was; refused, all of it
 abbrev pub filled : ℕ → List MonthRow → List MonthRow
@@ -49,7 +42,3 @@ filled_front have n rows = filled n (take have rows) ++ drop have rows
 abbrev pub year_rows : ℕ → YearRows
 year_rows n = record { head = year_head n; rows = filled n (replicate 13 zero_row) }
 
--- the number of an answer, and the count of rows, 0 where it is refused
-abbrev pub fill_number : FillAnswer → ℕ
-fill_number (FillAnswer.Filled k) = 0
-fill_number (FillAnswer.Refused e) = number_of e

@@ -1,5 +1,7 @@
 -- The printer's text fits its buffer; what is no year has the text of any other that is none; and when a line is settled.
 -- Assumes nothing.
+use Rattle.std.specs.Prelude.{Result, Ok, Err}
+use Rattle.refusal.specs.declared.Refusal.{Refusal}
 use mathlib.Core.Path.{◌≡◌, refl, sym, ap, ◌∙◌}
 use mathlib.Core.Bool.{Bool, true, false, ◌&&◌}
 use mathlib.Core.Logic.{⊎_elim}
@@ -15,7 +17,6 @@ use Rattle.refusal.specs.Numbers.{number_of}
 use Rattle.lunisolar.specs.Calendars.{year_at}
 use Rattle.units.specs.Xinghe.{round_years, is_year}
 use Rattle.calendar.specs.Heads.{head_for, year_head}
-use Rattle.calendar.specs.declared.HeadAnswer.{HeadAnswer}
 use Rattle.calendar.specs.declared.MonthRow.{MonthRow}
 use Rattle.calendar.proofs.Round.{head_months}
 use Rattle.year_list.specs.Filled.{rows_from}
@@ -32,11 +33,11 @@ pub text_fits : (n : ℕ) → length (text_of n) ≤ 2048
 unfolding text_for
 text_fits n = go (year_head n) refl
   where
-    go : (a : HeadAnswer) → a ≡ year_head n → length (text_for n a) ≤ 2048
-    go (HeadAnswer.Answered head) e =
+    go : (a : Result YearHead Refusal) → a ≡ year_head n → length (text_for n a) ≤ 2048
+    go (Ok head) e =
         let rows : List MonthRow = rows_from n 0 head.months in
         omega (arith, length-append (head_line n head) (row_lines rows), head_length n head, lines_length rows, rows_length n 0 head.months, head_months n head e)
-    go (HeadAnswer.Refused x) e = omega (arith, length-append refused_word (field (number_of x) 10), field_length (number_of x) 10)
+    go (Err x) e = omega (arith, length-append refused_word (field (number_of x) 10), field_length (number_of x) 10)
 
 -- WHAT IS NO YEAR has the text of year 0, which is none
 no_year : (n : ℕ) → is_year n ≡ false → text_of n ≡ text_of 0

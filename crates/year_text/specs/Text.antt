@@ -1,14 +1,13 @@
 -- What the year printer prints (01, "Cases at the edges"): a head line, then per month the place, month number, L or -, day of the sixty,
 -- remainder and length; or `refused` and the number, alone.
 -- Assumes nothing.
-use Rattle.std.specs.Prelude.{Bool, List, [], ◌∷◌, ◌++◌, ℕ}
+use Rattle.std.specs.Prelude.{Result, Ok, Err, Bool, List, [], ◌∷◌, ◌++◌, ℕ}
 use Rattle.reckoning.specs.Search.{pick}
 use Rattle.refusal.specs.Numbers.{number_of}
 use Rattle.refusal.specs.declared.Refusal.{Refusal}
 use Rattle.lunisolar.specs.Sixty.{sexagenary_of}
 use Rattle.calendar.specs.Heads.{year_head}
 use Rattle.calendar.specs.declared.YearHead.{YearHead}
-use Rattle.calendar.specs.declared.HeadAnswer.{HeadAnswer}
 use Rattle.calendar.specs.declared.MonthRow.{MonthRow}
 use Rattle.year_list.specs.Filled.{rows_from}
 use Rattle.writing.specs.Written.{texts}
@@ -60,9 +59,9 @@ abbrev pub refusal_line : Refusal → List ℕ
 refusal_line e = refused_word ++ field (number_of e) 10
 
 -- a year's head line and the lines of its rows, by place
-unfoldable pub text_for : ℕ → HeadAnswer → List ℕ
-text_for n (HeadAnswer.Answered head) = head_line n head ++ row_lines (rows_from n 0 head.months)
-text_for n (HeadAnswer.Refused e) = refusal_line e
+unfoldable pub text_for : ℕ → Result YearHead Refusal → List ℕ
+text_for n (Ok head) = head_line n head ++ row_lines (rows_from n 0 head.months)
+text_for n (Err e) = refusal_line e
 
 abbrev pub text_of : ℕ → List ℕ
 text_of n = text_for n (year_head n)

@@ -5,8 +5,8 @@ ghost use Rattle.year_text.specs.Lines.{line_of, year_of_line};
 ghost use Rattle.writing.specs.Written.{Wrote, after_text};
 ghost use Rattle.year_text.specs.Text.{field, named, mark, head_line, place_text, moon_text, month_line, row_lines, refusal_line, text_of};
 
-use calendar::{HeadAnswer, MonthRow, YearHead};
-use refusal::Refusal;
+use calendar::{MonthRow, YearHead};
+use refusal::{Numbered, Refusal};
 use writing::put_text;
 
 fn store(out: &mut [u8], at: usize, byte: u8)
@@ -134,11 +134,11 @@ pub fn render(year: u64, out: &mut [u8; 2048]) -> usize
     let head = listed.head;
     let rows = listed.rows;
     match head {
-        HeadAnswer::Answered(head) => {
+        Ok(head) => {
             let end = put_head(out, 0, year, head);
             put_rows(out, end, rows, head.months as usize)
         }
-        HeadAnswer::Refused(e) => put_refusal(out, 0, e),
+        Err(e) => put_refusal(out, 0, e),
     }
 }
 

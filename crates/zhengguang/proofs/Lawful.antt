@@ -1,5 +1,7 @@
 -- The rows of the round keep the laws that walks ask, so every theorem of the crate `walking` holds of them.
 -- Assumes nothing.
+use Rattle.std.specs.Prelude.{Result, Ok, Err}
+use Rattle.refusal.specs.declared.Refusal.{Refusal}
 use mathlib.Core.Path.{◌≡◌, ◌∙◌, refl, sym}
 use mathlib.Core.Bool.{true}
 use mathlib.Core.List.{[], ◌∷◌}
@@ -9,7 +11,7 @@ use borrow.Author.Tests.{eq-eqb}
 use lib.Dec.{eqb, eqb→eq}
 use lib.ListN.{get_or, get_or-append}
 use Rattle.reckoning.proofs.Searches.{all_at}
-use Rattle.walking.specs.Walk.{Answer, answered, refused}
+
 use Rattle.walking.specs.Fields.{same_fields}
 use Rattle.walking.proofs.Walks.{Lawful}
 use Rattle.mean_calendar.specs.Months.{month_of, month_fields}
@@ -42,8 +44,8 @@ unfolding row_of month_of
 lawful = record { month_row_lem = λ m h. refl; same_refl = same_refl; same_eq = same_eq }
 
 -- an answer as the code returns it loses nothing
-pub lossless : (a b : Answer ZhengguangRow) → shown a ≡ shown b → a ≡ b
-lossless (answered r) (answered s) e = cc
-lossless (answered r) (refused e) q = cc
-lossless (refused e) (answered s) q = cc
-lossless (refused e) (refused f) q = cc
+pub lossless : (a b : Result ZhengguangRow Refusal) → shown a ≡ shown b → a ≡ b
+lossless (Ok r) (Ok s) e = cc
+lossless (Ok r) (Err e) q = cc
+lossless (Err e) (Ok s) q = cc
+lossless (Err e) (Err f) q = cc

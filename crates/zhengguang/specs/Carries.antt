@@ -1,37 +1,34 @@
 -- Rows carried by signed counts of months, and walks (01, "Walks"): those of any calendar of a round, at the Zhengguang.
 -- Assumes nothing.
-use Rattle.std.specs.Prelude.{Bool, List, ℕ, ℤ, pos}
-use Rattle.reckoning.specs.Search.{pick}
-use Rattle.refusal.specs.Numbers.{number_of}
+use Rattle.std.specs.Prelude.{Result, Ok, Err, Bool, List, ℕ, ℤ, pos}
 use Rattle.refusal.specs.declared.Refusal.{Refusal}
-use Rattle.walking.specs.Walk.{Calendar, Answer, answered, refused, genuine, carry, walk, total, number}
+use Rattle.reckoning.specs.Search.{pick}
+use Rattle.walking.specs.Walk.{Calendar, genuine, carry, walk, total, number}
 use Rattle.walking.specs.Fields.{same_fields, named_month, genuine_by, carried_by}
 use Rattle.zhengguang.specs.Zhengguang.{round_months}
 use Rattle.zhengguang.specs.Rows.{field_count, row_fields, row_of}
 use Rattle.zhengguang.specs.Answers.{zero_row}
 use Rattle.zhengguang.specs.declared.ZhengguangRow.{ZhengguangRow}
-use Rattle.zhengguang.specs.declared.ZhengguangRowAnswer.{ZhengguangRowAnswer}
 use Rattle.zhengguang.specs.declared.walks.ZhengguangWalk.{ZhengguangWalk}
-use Rattle.zhengguang.specs.declared.walks.ZhengguangWalkAnswer.{ZhengguangWalkAnswer}
 
 -- the months of the round; two rows are the same where they are so in every field
 abbrev pub rows : Calendar ZhengguangRow
 rows = record { size = round_months; row = row_of; month = λ r. r.mean.lunation; same = λ r s. same_fields field_count (row_fields r) (row_fields s) }
 
 -- an answer as the code returns it
-abbrev pub shown : Answer ZhengguangRow → ZhengguangRowAnswer
-shown (answered row) = ZhengguangRowAnswer.Answered row
-shown (refused e) = ZhengguangRowAnswer.Refused e
+abbrev pub shown : Result ZhengguangRow Refusal → Result ZhengguangRow Refusal
+shown (Ok row) = Ok row
+shown (Err e) = Err e
 
 -- the carry of a row by a count
-abbrev pub carried : ZhengguangRow → ℤ → ZhengguangRowAnswer
+abbrev pub carried : ZhengguangRow → ℤ → Result ZhengguangRow Refusal
 carried row c = shown (carry rows row c)
 
 -- a row handed in as numbers: whether it is genuine, and its carry by a count
 abbrev pub genuine_fields : List ℕ → Bool
 genuine_fields f = genuine_by rows field_count row_fields f
 
-abbrev pub carried_fields : List ℕ → ℤ → ZhengguangRowAnswer
+abbrev pub carried_fields : List ℕ → ℤ → Result ZhengguangRow Refusal
 carried_fields f c = shown (carried_by rows field_count row_fields f c)
 
 -- a walk, carry by carry: its last row, the sum of the answered counts in whole numbers, and how many were answered
@@ -39,21 +36,13 @@ abbrev pub walked : ZhengguangRow → List ℤ → ZhengguangWalk
 walked r cs = record { row = walk rows r cs; sum = total rows r cs; answered = number rows r cs }
 
 -- from a row that is not genuine it is refused under 4
-abbrev pub walk_answer : ZhengguangRow → List ℤ → ZhengguangWalkAnswer
-walk_answer r cs = pick (genuine rows r) (ZhengguangWalkAnswer.Answered (walked r cs)) (ZhengguangWalkAnswer.Refused Refusal.Row)
+abbrev pub walk_answer : ZhengguangRow → List ℤ → Result ZhengguangWalk Refusal
+walk_answer r cs = pick (genuine rows r) (Ok (walked r cs)) (Err Refusal.Row)
 
 -- from a row handed in as numbers: from the row that they are, and refused under 4 where they are no genuine row's
-abbrev pub walk_answer_fields : List ℕ → List ℤ → ZhengguangWalkAnswer
-walk_answer_fields f cs = pick (genuine_fields f) (ZhengguangWalkAnswer.Answered (walked (row_of (named_month f)) cs)) (ZhengguangWalkAnswer.Refused Refusal.Row)
-
--- the number of a walk's answer, 0 where it is answered, and its values, all zero where it is refused
-abbrev pub walk_number : ZhengguangWalkAnswer → ℕ
-walk_number (ZhengguangWalkAnswer.Answered w) = 0
-walk_number (ZhengguangWalkAnswer.Refused e) = number_of e
+abbrev pub walk_answer_fields : List ℕ → List ℤ → Result ZhengguangWalk Refusal
+walk_answer_fields f cs = pick (genuine_fields f) (Ok (walked (row_of (named_month f)) cs)) (Err Refusal.Row)
 
 abbrev pub zero_walk : ZhengguangWalk
 zero_walk = record { row = zero_row; sum = pos 0; answered = 0 }
 
-abbrev pub walk_values : ZhengguangWalkAnswer → ZhengguangWalk
-walk_values (ZhengguangWalkAnswer.Answered w) = w
-walk_values (ZhengguangWalkAnswer.Refused e) = zero_walk

@@ -1,10 +1,12 @@
 -- Cases of the Zhengguang: the first years, the year Xiaochang 3 and the last, as the definitions give them; and 001's table of the eras.
 -- Assumes nothing.
+use Rattle.refusal.specs.Numbers.{answer_number}
+use Rattle.std.specs.Result.{result_unwrap_or}
 use Rattle.std.specs.Prelude.{◌≡◌, true, false, List, [], ◌∷◌, ℕ, ◌+◌, ◌*◌}
 use Rattle.mean_calendar.specs.Cases.{Case, head, month, none}
 use Rattle.zhengguang.specs.Zhengguang.{era_years}
 use Rattle.zhengguang.specs.Rows.{month_row}
-use Rattle.zhengguang.specs.Answers.{row_number, row_values}
+use Rattle.zhengguang.specs.Answers.{zero_row}
 
 abbrev pub table : List Case
 table =
@@ -41,9 +43,9 @@ printed =
 -- the row of the first month of era e, from 0, is answered, with that distance
 abbrev pub EraIs : ℕ → EraHead → Type 0
 EraIs e h =
-    (row_number (month_row (e * era_years + 1) 0) ≡ 0)
-    × ((row_values (month_row (e * era_years + 1) 0)).degrees ≡ h.degrees)
-    × ((row_values (month_row (e * era_years + 1) 0)).residue.parts ≡ h.remainder)
+    (answer_number (month_row (e * era_years + 1) 0) ≡ 0)
+    × ((result_unwrap_or (month_row (e * era_years + 1) 0) zero_row).degrees ≡ h.degrees)
+    × ((result_unwrap_or (month_row (e * era_years + 1) 0) zero_row).residue.parts ≡ h.remainder)
 
 abbrev pub ErasFrom : ℕ → List EraHead → Type 0
 ErasFrom e [] = Unit {0}

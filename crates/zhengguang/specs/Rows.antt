@@ -1,24 +1,21 @@
 -- A year's head and a month's row (02 §9): any calendar's, with what the Zhengguang has beside them.
 -- Assumes nothing.
-use Rattle.std.specs.Prelude.{List, [], ◌∷◌, ◌++◌, ℕ, ◌-◌}
+use Rattle.std.specs.Prelude.{Result, Ok, Err, List, [], ◌∷◌, ◌++◌, ℕ, ◌-◌}
+use Rattle.refusal.specs.declared.Refusal.{Refusal}
 use Rattle.mean_calendar.specs.Parts.{over_day}
 use Rattle.mean_calendar.specs.Heads as heads
 use Rattle.mean_calendar.specs.Months as months
-use Rattle.mean_calendar.specs.declared.MeanHeadAnswer.{MeanHeadAnswer}
 use Rattle.mean_calendar.specs.declared.MeanMonth.{MeanMonth}
-use Rattle.mean_calendar.specs.declared.MeanMonthAnswer.{MeanMonthAnswer}
 use Rattle.zhengguang.specs.Zhengguang.{zhengguang, leap_remainder}
 use Rattle.zhengguang.specs.Nodes.{since_node}
-use Rattle.zhengguang.specs.declared.ZhengguangHeadAnswer.{ZhengguangHeadAnswer}
 use Rattle.zhengguang.specs.declared.ZhengguangRow.{ZhengguangRow}
-use Rattle.zhengguang.specs.declared.ZhengguangRowAnswer.{ZhengguangRowAnswer}
 
 -- the head of year n, and the leap remainder of the chapter, of its n − 1 years past
-unfoldable pub head_by : ℕ → MeanHeadAnswer → ZhengguangHeadAnswer
-head_by n (MeanHeadAnswer.Answered head) = ZhengguangHeadAnswer.Answered (record { mean = head; remainder = leap_remainder (n - 1) })
-head_by n (MeanHeadAnswer.Refused e) = ZhengguangHeadAnswer.Refused e
+unfoldable pub head_by : ℕ → Result MeanHead Refusal → Result ZhengguangHead Refusal
+head_by n (Ok head) = Ok (record { mean = head; remainder = leap_remainder (n - 1) })
+head_by n (Err e) = Err e
 
-abbrev pub year_head : ℕ → ZhengguangHeadAnswer
+abbrev pub year_head : ℕ → Result ZhengguangHead Refusal
 year_head n = head_by n (heads.year_head zhengguang n)
 
 -- a month with the degrees and the remainder over N of its new moon's distance since the node
@@ -30,11 +27,11 @@ unfoldable pub row_of : ℕ → ZhengguangRow
 row_of m = row_by (months.month_of zhengguang m)
 
 -- the row at place p of year n: refused as the month is
-unfoldable pub row_for : MeanMonthAnswer → ZhengguangRowAnswer
-row_for (MeanMonthAnswer.Answered r) = ZhengguangRowAnswer.Answered (row_by r)
-row_for (MeanMonthAnswer.Refused e) = ZhengguangRowAnswer.Refused e
+unfoldable pub row_for : Result MeanMonth Refusal → Result ZhengguangRow Refusal
+row_for (Ok r) = Ok (row_by r)
+row_for (Err e) = Err e
 
-abbrev pub month_row : ℕ → ℕ → ZhengguangRowAnswer
+abbrev pub month_row : ℕ → ℕ → Result ZhengguangRow Refusal
 month_row n p = row_for (months.month_row zhengguang n p)
 
 -- its fields as numbers, in their order, and how many they are

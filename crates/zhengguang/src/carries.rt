@@ -2,9 +2,9 @@
 ghost use Rattle.std.specs.Prelude.{◌≡◌, pos, negsuc};
 ghost use Rattle.zhengguang.specs.Carries.{carried, genuine_fields, carried_fields};
 
+use refusal::Refusal;
 use crate::rows::{RowFields, row_of};
-use crate::{Zhengguang, ZhengguangRow, ZhengguangRowAnswer};
-use walking::Landing;
+use crate::{Zhengguang, ZhengguangRow};
 use walking::fields::same_fields;
 
 // Whether a row is that of the month of the round that it names.
@@ -20,32 +20,32 @@ pub fn is_genuine(fields: &RowFields) -> bool
 }
 
 // The row so many months on, or back, of a row handed in as numbers.
-pub fn carry_fields(fields: &RowFields, count: i64) -> ZhengguangRowAnswer
+pub fn carry_fields(fields: &RowFields, count: i64) -> Result<ZhengguangRow, Refusal>
     ensures { result ≡ carried_fields fields.now count }
 {
     let genuine = is_genuine(fields);
     match walking::land(Zhengguang::MONTHS, genuine, fields[0], count) {
-        Landing::Month(m) => ZhengguangRowAnswer::Answered(row_of(m)),
-        Landing::Refused(e) => ZhengguangRowAnswer::Refused(e),
+        Ok(m) => Ok(row_of(m)),
+        Err(e) => Err(e),
     }
 }
 
 impl ZhengguangRow {
     // The row so many months on, or back.
-    pub fn carry(self, count: i64) -> ZhengguangRowAnswer
+    pub fn carry(self, count: i64) -> Result<ZhengguangRow, Refusal>
         ensures { result ≡ carried self count }
     {
         let fields = self.fields();
         carry_fields(&fields, count)
     }
 
-    pub fn next(self) -> ZhengguangRowAnswer
+    pub fn next(self) -> Result<ZhengguangRow, Refusal>
         ensures { result ≡ carried self (pos 1) }
     {
         self.carry(1)
     }
 
-    pub fn back(self) -> ZhengguangRowAnswer
+    pub fn back(self) -> Result<ZhengguangRow, Refusal>
         ensures { result ≡ carried self (negsuc 0) }
     {
         self.carry(-1)

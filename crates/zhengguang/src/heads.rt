@@ -4,8 +4,8 @@ ghost use Rattle.mean_calendar.specs.Heads as heads;
 ghost use Rattle.zhengguang.specs.Zhengguang.{zhengguang, leap_remainder};
 ghost use Rattle.zhengguang.specs.Rows.{year_head};
 
-use crate::{Zhengguang, ZhengguangHead, ZhengguangHeadAnswer};
-use mean_calendar::MeanHeadAnswer;
+use refusal::Refusal;
+use crate::{Zhengguang, ZhengguangHead};
 
 // The leap remainder of a year, counted from 0.
 fn leap_remainder(y: u64) -> u64
@@ -16,21 +16,21 @@ fn leap_remainder(y: u64) -> u64
 }
 
 // The head of a year from any calendar's.
-pub fn head_by(year: u64, mean: MeanHeadAnswer) -> ZhengguangHeadAnswer
+pub fn head_by(year: u64, mean: Result<MeanHead, Refusal>) -> Result<ZhengguangHead, Refusal>
     requires { mean ≡ heads.year_head zhengguang year }
     ensures { result ≡ year_head year }
 {
     match mean {
-        MeanHeadAnswer::Answered(mean) => {
+        Ok(mean) => {
             let remainder = leap_remainder(year - 1);
-            ZhengguangHeadAnswer::Answered(ZhengguangHead { mean, remainder })
+            Ok(ZhengguangHead { mean, remainder })
         }
-        MeanHeadAnswer::Refused(e) => ZhengguangHeadAnswer::Refused(e),
+        Err(e) => Err(e),
     }
 }
 
 // Any calendar's head of a year.
-pub fn mean_head(year: u64) -> MeanHeadAnswer
+pub fn mean_head(year: u64) -> Result<MeanHead, Refusal>
     ensures { result ≡ heads.year_head zhengguang year }
 {
     let k = Zhengguang::constants();
@@ -38,7 +38,7 @@ pub fn mean_head(year: u64) -> MeanHeadAnswer
     mean_calendar::heads::head_for(k, year, first)
 }
 
-pub fn year_head(year: u64) -> ZhengguangHeadAnswer
+pub fn year_head(year: u64) -> Result<ZhengguangHead, Refusal>
     ensures { result ≡ year_head year }
 {
     head_by(year, mean_head(year))

@@ -9,9 +9,8 @@ ghost use Rattle.mean_calendar.specs.Points.{cut_point};
 ghost use Rattle.zhengguang.specs.Zhengguang.{zhengguang};
 
 use lunisolar::Constants;
-use lunisolar::dates::{DateAnswer, DayAnswer};
 use mean_calendar::parts::DayParts;
-use mean_calendar::{MeanHead, MeanMonth, MeanPointAnswer};
+use mean_calendar::{MeanHead, MeanMonth};
 use refusal::Refusal;
 
 pub mod answers;
@@ -29,24 +28,12 @@ pub struct ZhengguangHead {
     pub remainder: u64,
 }
 
-#[derive(Clone, Copy)]
-pub enum ZhengguangHeadAnswer {
-    Answered(ZhengguangHead),
-    Refused(Refusal),
-}
-
 // A month: any calendar's, and the degrees since the last node (交) at its new moon with their remainder (the residue).
 #[derive(Clone, Copy)]
 pub struct ZhengguangRow {
     pub mean: MeanMonth,
     pub degrees: u64,
     pub residue: DayParts,
-}
-
-#[derive(Clone, Copy)]
-pub enum ZhengguangRowAnswer {
-    Answered(ZhengguangRow),
-    Refused(Refusal),
 }
 
 // A distance since the last node in degrees, with its remainder over N and the half of a part beside it.
@@ -62,12 +49,6 @@ pub struct NodeDistance {
 pub struct MonthNodes {
     pub new: NodeDistance,
     pub full: NodeDistance,
-}
-
-#[derive(Clone, Copy)]
-pub enum MonthNodesAnswer {
-    Answered(MonthNodes),
-    Refused(Refusal),
 }
 
 #[derive(Clone, Copy)]
@@ -113,19 +94,19 @@ impl Zhengguang {
         }
     }
 
-    pub fn day_of_date(year: u64, place: u64, day: u64) -> DayAnswer
+    pub fn day_of_date(year: u64, place: u64, day: u64) -> Result<Day, Refusal>
         ensures { result ≡ day_of_date zhengguang year place day }
     {
         lunisolar::dates::day_of_date(Zhengguang::constants(), year, place, day)
     }
 
-    pub fn date_of_day(number: u64) -> DateAnswer
+    pub fn date_of_day(number: u64) -> Result<Date, Refusal>
         ensures { result ≡ date_of_day zhengguang number }
     {
         lunisolar::dates::date_of_day(Zhengguang::constants(), number)
     }
 
-    pub fn cut_point(year: u64, cut: u64, index: u64) -> MeanPointAnswer
+    pub fn cut_point(year: u64, cut: u64, index: u64) -> Result<MeanPoint, Refusal>
         ensures { result ≡ cut_point zhengguang year cut index }
     {
         mean_calendar::cuts::cut_point(Zhengguang::constants(), year, cut, index)

@@ -4,8 +4,8 @@ ghost use Rattle.mean_calendar.specs.Parts.{over_day};
 ghost use Rattle.zhengguang.specs.Zhengguang.{zhengguang};
 ghost use Rattle.zhengguang.specs.Nodes.{since_node, distance_of, nodes_of, nodes_at};
 
-use crate::{MonthNodes, MonthNodesAnswer, NodeDistance, Zhengguang};
-use lunisolar::LunationAnswer;
+use refusal::Refusal;
+use crate::{MonthNodes, NodeDistance, Zhengguang};
 use mean_calendar::parts::{DayShare, over_day};
 
 // The distance at the new moon of a month, in degrees and remainder.
@@ -41,11 +41,11 @@ fn nodes_of(lunation: u64) -> MonthNodes
     MonthNodes { new, full }
 }
 
-pub fn nodes(year: u64, place: u64) -> MonthNodesAnswer
+pub fn nodes(year: u64, place: u64) -> Result<MonthNodes, Refusal>
     ensures { result ≡ nodes_at year place }
 {
     match lunisolar::lunation_at(Zhengguang::constants(), year, place) {
-        LunationAnswer::Lunation(m) => MonthNodesAnswer::Answered(nodes_of(m)),
-        LunationAnswer::Refused(e) => MonthNodesAnswer::Refused(e),
+        Ok(m) => Ok(nodes_of(m)),
+        Err(e) => Err(e),
     }
 }

@@ -3,9 +3,10 @@ ghost use Rattle.std.specs.Prelude.{◌≡◌, ◌<◌};
 ghost use Rattle.zhengguang.specs.Zhengguang.{round_months};
 ghost use Rattle.zhengguang.specs.Rows.{row_by, row_of, row_fields, month_row};
 
+use refusal::Refusal;
 use crate::nodes::new_moon_distance;
-use crate::{Zhengguang, ZhengguangRow, ZhengguangRowAnswer};
-use mean_calendar::{MeanMonth, MeanMonthAnswer};
+use crate::{Zhengguang, ZhengguangRow};
+use mean_calendar::MeanMonth;
 
 // How many numbers a row has.
 pub const FIELDS: usize = 10;
@@ -57,13 +58,13 @@ pub fn row_of(lunation: u64) -> ZhengguangRow
     with_node(mean_calendar::months::month_of(Zhengguang::constants(), lunation))
 }
 
-pub fn month_row(year: u64, place: u64) -> ZhengguangRowAnswer
+pub fn month_row(year: u64, place: u64) -> Result<ZhengguangRow, Refusal>
     ensures { result ≡ month_row year place }
 {
     let k = Zhengguang::constants();
     let month = lunisolar::lunation_at(k, year, place);
     match mean_calendar::months::month_for(k, year, place, month) {
-        MeanMonthAnswer::Answered(mean) => ZhengguangRowAnswer::Answered(with_node(mean)),
-        MeanMonthAnswer::Refused(e) => ZhengguangRowAnswer::Refused(e),
+        Ok(mean) => Ok(with_node(mean)),
+        Err(e) => Err(e),
     }
 }

@@ -6,21 +6,21 @@ ghost use Rattle.zhengguang.specs.Zhengguang.{zhengguang};
 ghost use Rattle.zhengguang.specs.Rows.{row_fields, year_head};
 ghost use Rattle.zhengguang.specs.Years.{row_at, year_rows};
 
+use refusal::Refusal;
 use crate::heads::{head_by, mean_head};
 use crate::rows::{RowFields, with_node};
-use crate::{Zhengguang, ZhengguangHeadAnswer, ZhengguangRow};
-use mean_calendar::MeanHeadAnswer;
+use crate::{Zhengguang, ZhengguangRow};
 use mean_year::PLACES;
 
 // Its head, or why it is refused, and its rows by place, with zeros past them.
 #[derive(Clone, Copy)]
 pub struct ZhengguangYear {
-    pub head: ZhengguangHeadAnswer,
+    pub head: Result<ZhengguangHead, Refusal>,
     pub rows: [ZhengguangRow; PLACES],
 }
 
 // The row at a place of the year with any calendar's head; zeros where there is none, which are also the row of a month of zeros.
-fn row_at(year: u64, mean: MeanHeadAnswer, place: u64) -> ZhengguangRow
+fn row_at(year: u64, mean: Result<MeanHead, Refusal>, place: u64) -> ZhengguangRow
     requires { mean ≡ heads.year_head zhengguang year }
     ensures { result ≡ row_at year place }
 {
@@ -32,7 +32,7 @@ pub fn year_by_value(year: u64) -> ZhengguangYear
 {
     let mean = mean_head(year);
     let head = head_by(year, mean);
-    let mut rows = [ZhengguangRow::zero(); PLACES];
+    let mut rows = [ZhengguangRow::default(); PLACES];
     let mut i = 0;
     while i < PLACES {
         rows[i] = row_at(year, mean, i as u64);
@@ -42,7 +42,7 @@ pub fn year_by_value(year: u64) -> ZhengguangYear
 }
 
 // The rows of the year with any calendar's head, as numbers, in a lent list of thirteen.
-fn write_rows(year: u64, mean: MeanHeadAnswer, rows: &mut [RowFields])
+fn write_rows(year: u64, mean: Result<MeanHead, Refusal>, rows: &mut [RowFields])
     requires { (mean ≡ heads.year_head zhengguang year) × (length rows.old ≡ places) }
     ensures { rows.new ≡ map row_fields (year_rows year).rows }
 {
@@ -55,7 +55,7 @@ fn write_rows(year: u64, mean: MeanHeadAnswer, rows: &mut [RowFields])
 }
 
 // A year with its rows as numbers in a lent array.
-pub fn write_year(year: u64, rows: &mut [RowFields; PLACES]) -> ZhengguangHeadAnswer
+pub fn write_year(year: u64, rows: &mut [RowFields; PLACES]) -> Result<ZhengguangHead, Refusal>
     ensures { (result ≡ year_head year) × (rows.new ≡ map row_fields (year_rows year).rows) }
 {
     let mean = mean_head(year);

@@ -1,16 +1,17 @@
+use Rattle.std.specs.Result.{result_unwrap_or}
 use native.Mathlib.Omega.{arith}
 use Prim.Native.Nat.{◌≤◌}
 use mathlib.Core.Path.{◌≡◌, sym, ap, ◌∙◌}
 use lib.Seq.{length-take-le}
 use Rattle.calendar.specs.Heads.{year_head}
-use Rattle.calendar.specs.Answers.{head_values}
+use Rattle.calendar.specs.Answers.{zero_head}
 use Rattle.calendar.specs.declared.YearHead.{YearHead}
 use Rattle.blocks.proofs.Blocks.{at_most_13, front, whole}
 use Rattle.blocks.proofs.fill_block.Goals as goal
 
 -- the head's values are its year's, and its months at most thirteen
-headed : (a : goal.After-put_zeros-arg-1) → a.values-values.result ≡ head_values (year_head a.args.year)
-headed a = a.values-values.ensures ∙ ap head_values a.requires.1
+headed : (a : goal.After-put_zeros-arg-1) → a.values-values.result ≡ result_unwrap_or (year_head a.args.year) zero_head
+headed a = a.values-values.ensures ∙ ap result_unwrap_or a.requires.1 zero_head
 
 few : (a : goal.After-put_zeros-arg-1) → a.values-values.result.months ≤ 13
 few a = omega (arith, ap (λ (h : YearHead). h.months) (headed a), at_most_13 a.args.year)
@@ -28,7 +29,7 @@ pub returns : goal.returns
 returns c =
     let x = c.args in
     whole x.year x.totals c.check-sum.result c.requires.0
-    (front x.year x.totals c.values-values.result (c.values-values.ensures ∙ ap head_values c.requires.1)
+    (front x.year x.totals c.values-values.result (c.values-values.ensures ∙ ap result_unwrap_or c.requires.1 zero_head)
     c.put_head.ensures
     c.put_records.ensures
     c.put_zeros.ensures

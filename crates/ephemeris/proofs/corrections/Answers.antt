@@ -1,7 +1,7 @@
+use Rattle.std.specs.Prelude.{Ok}
 use native.Mathlib.Omega.{arith}
 use mathlib.Core.Path.{◌≡◌, ◌∙◌, sym}
 use Rattle.lunisolar.specs.Calendars.{lunation_at}
-use Rattle.lunisolar.specs.declared.LunationAnswer.{LunationAnswer}
 use Rattle.units.specs.Xinghe.{xinghe}
 use Rattle.lunisolar.proofs.Rounds.{lunation_in_round}
 use Rattle.units.proofs.Sound.{sound}
@@ -9,18 +9,18 @@ use Rattle.ephemeris.specs.Jobs.{corrections_for}
 use Rattle.ephemeris.proofs.corrections.Goals as goal
 
 -- the month that the match binds, which is of the round
-is_lunation : (a : goal.In-Lunation) → LunationAnswer.Lunation a.in-Lunation.m ≡ lunation_at xinghe a.args.year a.args.place
-is_lunation a = sym a.in-Lunation.is ∙ a.lunation_at.ensures
+is_lunation : (a : goal.In-Ok) → Ok a.in-Ok.m ≡ lunation_at xinghe a.args.year a.args.place
+is_lunation a = sym a.in-Ok.is ∙ a.lunation_at.ensures
 
 pub corrections_of-requires : goal.corrections_of-requires
 corrections_of-requires c =
     let a = c.args in
-    omega (arith, lunation_in_round xinghe sound a.year a.place c.in-Lunation.m (is_lunation c))
+    omega (arith, lunation_in_round xinghe sound a.year a.place c.in-Ok.m (is_lunation c))
 
-pub returns-in-Lunation : goal.returns-in-Lunation
+pub returns-in-Ok : goal.returns-in-Ok
 unfolding corrections_for
-returns-in-Lunation c = rw (← is_lunation c.before, c.corrections_of.ensures)
+returns-in-Ok c = rw (← is_lunation c.before, c.corrections_of.ensures)
 
-pub returns-in-Refused : goal.returns-in-Refused
+pub returns-in-Err : goal.returns-in-Err
 unfolding corrections_for
-returns-in-Refused c = rw (← c.lunation_at.ensures, c.in-Refused.is)
+returns-in-Err c = rw (← c.lunation_at.ensures, c.in-Err.is)

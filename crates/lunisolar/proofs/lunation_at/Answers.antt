@@ -1,25 +1,13 @@
 use native.Mathlib.Omega.{arith}
-use mathlib.Core.Path.{◌≡◌, refl, sym, ◌∙◌}
 use Prim.Native.Nat.{◌<◌}
-use Rattle.lunisolar.specs.Calendars.{year_at, lunation_for}
-use Rattle.lunisolar.specs.declared.YearAnswer.{YearAnswer}
 use Rattle.lunisolar.proofs.Laws.{year_found}
 use Rattle.lunisolar.proofs.lunation_at.Goals as goal
 
--- the year that the match binds
-is_past : (a : goal.In-Past) → (let x = a.args in YearAnswer.Past a.in-Past.y ≡ year_at x.k x.year)
-is_past a = sym a.in-Past.is ∙ a.year_at.ensures
-
-in_round_lem : (a : goal.In-Past) → a.in-Past.y < 1048576
-in_round_lem a =
-    omega (arith, (year_found a.args.k a.args.year a.in-Past.y (is_past a)).upto, a.requires.years)
+in_round_lem : (a : goal.In_ok-y) → a.in_ok-y.y < 1048576
+in_round_lem a = omega (arith, (year_found a.args.k a.args.year a.in_ok-y.y a.in_ok-y.ensures).upto, a.requires.years)
 
 pub months_before-before-requires : goal.months_before-before-requires
 months_before-before-requires c = (c.requires, omega (arith, in_round_lem c))
 
 pub lunation_in-requires : goal.lunation_in-requires
 lunation_in-requires c = (c.requires, in_round_lem c.before, c.months_before-before.ensures)
-
-pub returns-in-Refused : goal.returns-in-Refused
-unfolding lunation_for
-returns-in-Refused c = rw (← c.year_at.ensures, c.in-Refused.is) refl

@@ -1,3 +1,4 @@
+use Rattle.std.specs.Prelude.{Ok}
 use native.Mathlib.Omega.{arith}
 use Prim.Native.Nat.{◌+◌, ◌-◌, ◌/◌}
 use mathlib.Core.Path.{◌≡◌, refl, sym, ap, ◌∙◌}
@@ -7,7 +8,6 @@ use Rattle.reckoning.specs.Search.{pick, any}
 use Rattle.volumes.specs.Volume.{Run}
 use Rattle.mending.specs.FirstYear.{sound_at, implied_first, known}
 use Rattle.mending.specs.Mended.{mendable, mend_answer, volume_after, list_after}
-use Rattle.mending.specs.declared.MendAnswer.{MendAnswer}
 use Rattle.mending.proofs.FirstYears.{Length, length_of_lem, known_by, known_first}
 use Rattle.mending.proofs.Implied.{known_implied}
 use Rattle.mending.proofs.mend.Goals as goal
@@ -66,4 +66,4 @@ returns c =
     let yes = right in
     let e = rw first_is at c.mend_blocks-count.ensures in
     let k = is_known in
-    (rw (yes, k) (ap MendAnswer.Mended e.0), rw (yes, k) e.1, rw (yes, k) (rw e.0 at e.2))
+    (rw (yes, k) (ap Ok e.0), rw (yes, k) e.1, rw (yes, k) (rw e.0 at e.2))

@@ -6,13 +6,13 @@ use Rattle.year_list.proofs.answer_for.Goals as goal
 pub returns-then-head-have : goal.returns-then-head-have
 unfolding answer_for
 returns-then-head-have c =
-    rw (c.in-Answered.is, le-leb c.in-Answered.head.months c.args.have (omega (arith, c.if-head-have.true)))
+    rw (c.in-Ok.is, le-leb c.in-Ok.head.months c.args.have (omega (arith, c.if-head-have.true)))
 
 pub returns-else-head-have : goal.returns-else-head-have
 unfolding answer_for
 returns-else-head-have c =
-    rw (c.in-Answered.is, lt-leb c.in-Answered.head.months c.args.have (omega (arith, c.if-head-have.false)))
+    rw (c.in-Ok.is, lt-leb c.in-Ok.head.months c.args.have (omega (arith, c.if-head-have.false)))
 
-pub returns-in-Refused : goal.returns-in-Refused
+pub returns-in-Err : goal.returns-in-Err
 unfolding answer_for
-returns-in-Refused c = rw c.in-Refused.is
+returns-in-Err c = rw c.in-Err.is

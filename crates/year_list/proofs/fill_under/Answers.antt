@@ -1,18 +1,20 @@
 -- No more places are written than the list has, and each with the year's row.
+use Rattle.std.specs.Prelude.{Result}
+use Rattle.refusal.specs.declared.Refusal.{Refusal}
+use Rattle.std.specs.Result.{result_unwrap_or}
 use Prim.Native.Nat.{ℕ, ◌<◌}
 use mathlib.Core.Path.{◌≡◌, refl, ap, ◌∙◌}
 use native.Mathlib.Omega.{arith}
 use lib.ListN.{length}
 use borrow.Author.Rules.{rules}
 use Rattle.calendar.specs.Heads.{year_head}
-use Rattle.calendar.specs.declared.HeadAnswer.{HeadAnswer}
-use Rattle.year_list.specs.Filled.{answer_for, written, rows_from, to_write}
+use Rattle.year_list.specs.Filled.{answer_for, rows_from, to_write}
 use Rattle.year_list.proofs.Fronts.{front, within, below_months, as_long, one_more}
 use Rattle.year_list.proofs.fill_under.Goals as goal
 
 -- the count that is written, by the year
-counted : (n len k : ℕ) (h : HeadAnswer) → h ≡ year_head n → k ≡ written (answer_for h len) → k ≡ to_write n len
-counted n len k h e w = w ∙ ap (λ (a : HeadAnswer). written (answer_for a len)) e
+counted : (n len k : ℕ) (h : Result YearHead Refusal) → h ≡ year_head n → k ≡ result_unwrap_or (answer_for h len) 0 → k ≡ to_write n len
+counted n len k h e w = w ∙ ap (λ (a : Result YearHead Refusal). result_unwrap_or (answer_for a len) 0) e
 
 pub loop-i-init : goal.loop-i-init
 unfolding rows_from
@@ -48,4 +50,4 @@ returns c =
     let len = length c.args.rows.now in
     let e = counted c.args.year len _ c.args.head c.requires c.to_write-n.ensures in
     let done : c.loop-i.i ≡ to_write c.args.year len = omega (arith, e, c.loop-i-test.false) in
-    (c.answer_for.ensures ∙ ap (λ (a : HeadAnswer). answer_for a len) c.requires, c.loop-i.invariant.1 ∙ ap (λ (k : ℕ). front c.args.year k c.args.rows.now) done)
+    (c.answer_for.ensures ∙ ap (λ (a : Result YearHead Refusal). answer_for a len) c.requires, c.loop-i.invariant.1 ∙ ap (λ (k : ℕ). front c.args.year k c.args.rows.now) done)

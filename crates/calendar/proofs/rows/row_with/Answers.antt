@@ -1,3 +1,4 @@
+use Rattle.std.specs.Prelude.{Ok}
 use Prim.Native.Nat.{◌-◌, ◌+◌, ◌<◌}
 use native.Mathlib.Omega.{arith}
 use mathlib.Core.Path.{ap, sym, ◌∙◌}
@@ -6,7 +7,6 @@ use Rattle.lunisolar.specs.Names.{name_of}
 use Rattle.lunisolar.proofs.Rounds.{in_round_lem}
 use Rattle.units.specs.Xinghe.{xinghe, round_months}
 use Rattle.units.proofs.Sound.{sound}
-use Rattle.calendar.specs.declared.RowAnswer.{RowAnswer}
 use Rattle.calendar.proofs.Round.{head_found, head_leap, head_stands, head_row}
 use Rattle.calendar.proofs.rows.row_with.Goals as goal
 
@@ -35,4 +35,4 @@ row_named-requires c =
 
 pub returns : goal.returns
 returns c =
-    ap RowAnswer.Answered c.row_named.ensures ∙ head_row c.args.year c.args.head c.requires.0 c.args.place c.requires.1
+    ap Ok c.row_named.ensures ∙ head_row c.args.year c.args.head c.requires.0 c.args.place c.requires.1

@@ -1,9 +1,8 @@
 use native.Mathlib.Omega.{arith}
 use mathlib.Core.Path.{◌≡◌, ◌∙◌, sym}
-use Prim.Native.Nat.{suc, ◌*◌, ◌≤◌}
+use Prim.Native.Nat.{suc, ◌*◌, ◌≤◌, ℕ, ◌+◌}
 use native.Mathlib.Numerals.{add-one}
 use mathlib.Core.Bool.{Bool}
-use Prim.Native.Nat.{ℕ, ◌+◌}
 use lib.Dec.{leb}
 use Rattle.lunisolar.specs.declared.Constants.{Constants}
 use borrow.Author.Tests.{leb-true, leb-false}

@@ -1,3 +1,4 @@
+use Rattle.std.specs.Prelude.{Ok}
 use native.Mathlib.Omega.{arith}
 use mathlib.Core.Path.{◌≡◌, ◌∙◌, ap, sym}
 use Prim.Native.Nat.{◌+◌, ◌-◌, ◌<◌}
@@ -7,7 +8,6 @@ use Rattle.lunisolar.specs.Names.{name_of}
 use Rattle.lunisolar.proofs.Laws.{lunations_bound}
 use Rattle.lunisolar.proofs.Rounds.{in_round_lem}
 use Rattle.mean_calendar.specs.Heads.{head_of}
-use Rattle.mean_calendar.specs.declared.MeanMonthAnswer.{MeanMonthAnswer}
 use Rattle.mean_calendar.proofs.Found.{HeadFound, head_found, head_stands, head_month}
 use Rattle.mean_calendar.proofs.months.month_under.Goals as goal
 
@@ -47,4 +47,4 @@ month_by-requires c =
 
 pub returns : goal.returns
 returns c =
-    ap MeanMonthAnswer.Answered c.month_by.ensures ∙ head_month c.args.k c.args.year c.args.head c.requires.1 c.args.place c.requires.2
+    ap Ok c.month_by.ensures ∙ head_month c.args.k c.args.year c.args.head c.requires.1 c.args.place c.requires.2

@@ -11,5 +11,5 @@ put_field-requires c =
 pub returns-in-Years : goal.returns-in-Years
 returns-in-Years c = rw c.in-Years.is (from_front (and_then c.put_field-end.ensures c.put_field.ensures))
 
-pub returns-in-Refused : goal.returns-in-Refused
-returns-in-Refused c = rw c.in-Refused.is (from_front c.put_refusal.ensures)
+pub returns-in-Err : goal.returns-in-Err
+returns-in-Err c = rw c.in-Err.is (from_front c.put_refusal.ensures)

@@ -12,6 +12,6 @@ pub returns-else-n-room : goal.returns-else-n-room
 unfolding write_for
 returns-else-n-room c = rw (c.in-Years.is, lt-leb (512 * c.in-Years.n) c.args.room (omega (arith, c.if-n-room.false)))
 
-pub returns-in-Refused : goal.returns-in-Refused
+pub returns-in-Err : goal.returns-in-Err
 unfolding write_for
-returns-in-Refused c = rw c.in-Refused.is
+returns-in-Err c = rw c.in-Err.is

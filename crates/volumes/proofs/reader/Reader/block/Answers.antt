@@ -3,8 +3,7 @@ use mathlib.Core.Bool.{◌&&◌}
 use Prim.Native.Nat.{◌+◌, ◌-◌}
 use Rattle.reckoning.proofs.Searches.{T_false, both_left}
 use Rattle.blocks.specs.Bytes.{same}
-use Rattle.volumes.specs.Volume.{block_at}
-use Rattle.volumes.specs.Volume.{is_run}
+use Rattle.volumes.specs.Volume.{block_at, is_run}
 use Rattle.volumes.specs.Stream.{held, read_on}
 use Rattle.volumes.proofs.Runs.{run_of}
 use Rattle.volumes.proofs.reader.Reader.block.Goals as goal
