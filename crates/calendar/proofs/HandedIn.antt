@@ -21,7 +21,7 @@ use Rattle.walking.proofs.HandedIn as handed
 use Rattle.node.specs.Sides.{side_number}
 use Rattle.node.specs.declared.Side.{Side}
 use Rattle.calendar.specs.Rows.{field_count, row_fields, row_of}
-use Rattle.calendar.specs.Carries.{months, shown, carried, genuine_fields, carried_fields}
+use Rattle.calendar.specs.Carries.{months, carried, genuine_fields, carried_fields}
 use Rattle.calendar.specs.declared.MonthRow.{MonthRow}
 use Rattle.calendar.proofs.Lawful.{lawful}
 
@@ -48,7 +48,7 @@ module _ (f : List ℕ) where
   pub carry_numbers : (c : ℤ) → answer_number (carried_fields f c) ≡ pick (genuine_fields f) (pick (in_round round_months (pos (named_month f) +ℤ c)) 0 5) 4
   carry_numbers c = go (genuine_fields f) (in_round round_months (pos (named_month f) +ℤ c))
     where
-      go : (b i : Bool) → answer_number (shown (pick b (pick i (Ok (row_of (nat_abs (pos (named_month f) +ℤ c)))) (Err Refusal.Carry)) (Err Refusal.Row))) ≡ pick b (pick i 0 5) 4
+      go : (b i : Bool) → answer_number ((pick b (pick i (Ok (row_of (nat_abs (pos (named_month f) +ℤ c)))) (Err Refusal.Carry)) (Err Refusal.Row))) ≡ pick b (pick i 0 5) 4
       go true true = refl
       go true false = refl
       go false i = refl

@@ -19,7 +19,7 @@ use Rattle.mean_calendar.specs.Months.{month_of}
 use Rattle.node.specs.Sides.{side_number}
 use Rattle.node.specs.declared.Side.{Side}
 use Rattle.calendar.specs.Rows.{field_count, row_fields, row_of}
-use Rattle.calendar.specs.Carries.{months, shown}
+use Rattle.calendar.specs.Carries.{months}
 use Rattle.calendar.specs.declared.MonthRow.{MonthRow}
 
 -- a side is told by its number
@@ -64,10 +64,3 @@ same_eq r s e =
 pub lawful : Lawful months
 unfolding row_of month_of
 lawful = record { month_row_lem = λ m h. refl; same_refl = same_refl; same_eq = same_eq }
-
--- an answer as the code returns it loses nothing
-pub lossless : (a b : Result MonthRow Refusal) → shown a ≡ shown b → a ≡ b
-lossless (Ok r) (Ok s) e = cc
-lossless (Ok r) (Err e) q = cc
-lossless (Err e) (Ok s) q = cc
-lossless (Err e) (Err f) q = cc

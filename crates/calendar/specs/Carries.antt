@@ -12,18 +12,13 @@ use Rattle.calendar.specs.declared.MonthRow.{MonthRow}
 abbrev pub months : Calendar MonthRow
 months = record { size = round_months; row = row_of; month = λ r. r.lunation; same = λ r s. same_fields field_count (row_fields r) (row_fields s) }
 
--- an answer as the code returns it
-abbrev pub shown : Result MonthRow Refusal → Result MonthRow Refusal
-shown (Ok row) = Ok row
-shown (Err e) = Err e
-
 -- the carry of a row by a count
 abbrev pub carried : MonthRow → ℤ → Result MonthRow Refusal
-carried row c = shown (carry months row c)
+carried row c = carry months row c
 
 -- a row handed in as numbers: whether it is genuine, and its carry by a count
 abbrev pub genuine_fields : List ℕ → Bool
 genuine_fields f = genuine_by months field_count row_fields f
 
 abbrev pub carried_fields : List ℕ → ℤ → Result MonthRow Refusal
-carried_fields f c = shown (carried_by months field_count row_fields f c)
+carried_fields f c = carried_by months field_count row_fields f c

@@ -13,7 +13,7 @@ use Rattle.lunisolar.proofs.Days as dates
 use Rattle.walking.proofs.Demand.{Demand}
 use Rattle.mean_calendar.specs.Heads.{year_head}
 use Rattle.mean_calendar.specs.Months.{month_row}
-use Rattle.mean_calendar.specs.Carries.{months_of, shown, carried}
+use Rattle.mean_calendar.specs.Carries.{months_of, carried}
 use Rattle.mean_calendar.specs.declared.MeanHead.{MeanHead}
 use Rattle.mean_calendar.specs.declared.MeanMonth.{MeanMonth}
 use Rattle.mean_calendar.proofs.LeapYears as leap-years
@@ -44,7 +44,7 @@ pub date_day_date : (n p i d : ℕ) → day_of_date linde n p i ≡ Ok (day_of d
 date_day_date = dates.date_day_date linde sound
 
 -- DEMAND 3, over its months and all lists of counts
-pub demand_3 : Demand (months_of linde) shown (λ r cs. Ok (walked linde r cs)) (Err Refusal.Row)
+pub demand_3 : Demand (months_of linde) (walked linde)
 demand_3 = any-walk.demand_3 linde
 
 -- A CARRY STAYS WITHIN THE MONTHS OF ITS YEARS

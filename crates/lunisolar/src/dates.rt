@@ -3,11 +3,11 @@ ghost use Rattle.std.specs.Prelude.{◌≡◌, ◌<◌};
 ghost use Rattle.reckoning.specs.Rule.{year_of};
 ghost use Rattle.reckoning.specs.Means.{new_moon};
 ghost use Rattle.reckoning.specs.Dates.{month_of};
-ghost use Rattle.lunisolar.specs.Calendars.{Sound, InCalendar, means_of, rule_of};
+ghost use Rattle.lunisolar.specs.Calendars.{InCalendar, means_of, rule_of};
 ghost use Rattle.lunisolar.specs.Dates.{day_in, day_for, day_of_date, date_in, date_of_day};
 ghost use Rattle.lunisolar.specs.Answers.{zero_day, zero_date};
 
-use crate::Constants;
+use crate::Calendar;
 use crate::means::{month_length, month_of_day, new_moon_day};
 use crate::rule::{months_before, year_of};
 use refusal::Refusal;
@@ -28,9 +28,9 @@ pub struct Date {
 }
 
 // A day of month m, from 1.
-pub fn day_in(k: Constants, m: u64, day: u64) -> Result<Day, Refusal>
-    requires { Sound k × (m < 16777216) }
-    ensures { result ≡ day_in k m day }
+pub fn day_in(k: Calendar, m: u64, day: u64) -> Result<Day, Refusal>
+    requires { m < 16777216 }
+    ensures { result ≡ day_in k.constants m day }
 {
     if day < 1 {
         return Err(Refusal::DayOfMonth);
@@ -47,25 +47,23 @@ pub fn day_in(k: Constants, m: u64, day: u64) -> Result<Day, Refusal>
 
 // A day of a month that was sought, from 1: refused as the month is, then as the day is.
 #[tactic(auto, unfolding(crate::specs::Dates::day_for))]
-pub fn day_for(k: Constants, month: Result<u64, Refusal>, day: u64) -> Result<Day, Refusal>
-    requires { Sound k × InCalendar k month }
-    ensures { result ≡ day_for k month day }
+pub fn day_for(k: Calendar, month: Result<u64, Refusal>, day: u64) -> Result<Day, Refusal>
+    requires { InCalendar k.constants month }
+    ensures { result ≡ day_for k.constants month day }
 {
     day_in(k, month?, day)
 }
 
-pub fn day_of_date(k: Constants, year: u64, place: u64, day: u64) -> Result<Day, Refusal>
-    requires { Sound k }
-    ensures { result ≡ day_of_date k year place day }
+pub fn day_of_date(k: Calendar, year: u64, place: u64, day: u64) -> Result<Day, Refusal>
+    ensures { result ≡ day_of_date k.constants year place day }
 {
     day_for(k, crate::lunation_at(k, year, place), day)
 }
 
-pub fn date_of_day(k: Constants, number: u64) -> Result<Date, Refusal>
-    requires { Sound k }
-    ensures { result ≡ date_of_day k number }
+pub fn date_of_day(k: Calendar, number: u64) -> Result<Date, Refusal>
+    ensures { result ≡ date_of_day k.constants number }
 {
-    if k.days <= number {
+    if k.constants.days <= number {
         return Err(Refusal::Day);
     }
     let m = month_of_day(k, number);
@@ -75,12 +73,12 @@ pub fn date_of_day(k: Constants, number: u64) -> Result<Date, Refusal>
 }
 
 // The date of a day, with the month that it lies in, the year of that, counted from 0, and the months before the year.
-pub fn date_in(k: Constants, y: u64, before: u64, m: u64, day: u64) -> Date
-    requires { Sound k × (m < k.lunations) × (y ≡ year_of (rule_of k) m) × (before ≡ (rule_of k).before y) × (m ≡ month_of (new_moon (means_of k)) day) }
-    ensures { result ≡ date_in k m day }
+pub fn date_in(k: Calendar, y: u64, before: u64, m: u64, day: u64) -> Date
+    requires { (m < k.constants.lunations) × (y ≡ year_of (rule_of k.constants) m) × (before ≡ (rule_of k.constants).before y) × (m ≡ month_of (new_moon (means_of k.constants)) day) }
+    ensures { result ≡ date_in k.constants m day }
 {
     Date {
-        year: y + k.first,
+        year: y + k.constants.first,
         place: m - before,
         day: day - new_moon_day(k, m) + 1,
     }

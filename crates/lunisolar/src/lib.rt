@@ -30,25 +30,31 @@ pub struct Constants {
     pub days: u64,
 }
 
+// A calendar: its constants, which are sound.
+#[derive(Clone, Copy)]
+pub struct Calendar {
+    pub constants: Constants,
+    pub ghost sound: { Sound constants },
+}
+
 // The years past before a year as it is written.
-pub fn year_at(k: Constants, year: u64) -> Result<u64, Refusal>
-    requires { Sound k }
-    ensures { result ≡ year_at k year }
+pub fn year_at(k: Calendar, year: u64) -> Result<u64, Refusal>
+    ensures { result ≡ year_at k.constants year }
 {
-    if year < k.first {
+    if year < k.constants.first {
         return Err(Refusal::Year);
     }
-    let past = year - k.first;
-    if k.years <= past {
+    let past = year - k.constants.first;
+    if k.constants.years <= past {
         return Err(Refusal::Year);
     }
     Ok(past)
 }
 
 // Whether year y, counted from 0, with so many months before it, has a place.
-fn has_place(k: Constants, y: u64, before: u64, place: u64) -> bool
-    requires { Sound k × (y < 1048576) × (before ≡ (rule_of k).before y) }
-    ensures { result ≡ ltb place (month_count (rule_of k) y) }
+fn has_place(k: Calendar, y: u64, before: u64, place: u64) -> bool
+    requires { (y < 1048576) × (before ≡ (rule_of k.constants).before y) }
+    ensures { result ≡ ltb place (month_count (rule_of k.constants) y) }
 {
     // Every year has twelve months: the thirteenth is seldom asked for, and only then looked for.
     if place < 12 {
@@ -58,9 +64,9 @@ fn has_place(k: Constants, y: u64, before: u64, place: u64) -> bool
 }
 
 // The month at a place of year y, counted from 0, from the months before it.
-pub fn lunation_in(k: Constants, y: u64, before: u64, place: u64) -> Result<u64, Refusal>
-    requires { Sound k × (y < 1048576) × (before ≡ (rule_of k).before y) }
-    ensures { result ≡ lunation_for k (Ok y) place }
+pub fn lunation_in(k: Calendar, y: u64, before: u64, place: u64) -> Result<u64, Refusal>
+    requires { (y < 1048576) × (before ≡ (rule_of k.constants).before y) }
+    ensures { result ≡ lunation_for k.constants (Ok y) place }
 {
     if has_place(k, y, before, place) {
         Ok(before + place)
@@ -71,9 +77,8 @@ pub fn lunation_in(k: Constants, y: u64, before: u64, place: u64) -> Result<u64,
 
 // The month at a place of a year as it is written.
 #[tactic(auto, unfolding(crate::specs::Calendars::lunation_for))]
-pub fn lunation_at(k: Constants, year: u64, place: u64) -> Result<u64, Refusal>
-    requires { Sound k }
-    ensures { result ≡ lunation_at k year place }
+pub fn lunation_at(k: Calendar, year: u64, place: u64) -> Result<u64, Refusal>
+    ensures { result ≡ lunation_at k.constants year place }
 {
     let y = year_at(k, year)?;
     let before = rule::months_before(k, y);

@@ -3,10 +3,10 @@ ghost use Rattle.std.specs.Prelude.{◌≡◌, ◌+◌, ◌%◌, ◌<◌};
 ghost use Rattle.reckoning.specs.Rule.{leap_place, month_count};
 ghost use Rattle.reckoning.specs.Means.{new_moon};
 ghost use Rattle.reckoning.specs.Figures.{leap_at, leap_or_past, number_by, number_at};
-ghost use Rattle.lunisolar.specs.Calendars.{Sound, means_of, rule_of};
+ghost use Rattle.lunisolar.specs.Calendars.{means_of, rule_of};
 ghost use Rattle.lunisolar.specs.Names.{name_of};
 
-use crate::Constants;
+use crate::Calendar;
 use crate::means::term_from;
 
 // A year as it is written, a place, a month number (11 at place 0) and the leap mark.
@@ -58,12 +58,12 @@ fn number_at(leap: u64, place: u64) -> u64
 }
 
 // The name of the month at a place of year y, whose leap place is at hand.
-pub fn name_under(k: Constants, y: u64, leap: u64, place: u64) -> MonthName
-    requires { Sound k × (y < 1048576) × (leap ≡ leap_place (rule_of k) y) × (place < month_count (rule_of k) y) }
-    ensures { result ≡ name_of k ((rule_of k).before y + place) }
+pub fn name_under(k: Calendar, y: u64, leap: u64, place: u64) -> MonthName
+    requires { (y < 1048576) × (leap ≡ leap_place (rule_of k.constants) y) × (place < month_count (rule_of k.constants) y) }
+    ensures { result ≡ name_of k.constants ((rule_of k.constants).before y + place) }
 {
     MonthName {
-        year: y + k.first,
+        year: y + k.constants.first,
         place,
         number: number_at(leap, place),
         leap: leap_at(leap, place),
@@ -71,16 +71,16 @@ pub fn name_under(k: Constants, y: u64, leap: u64, place: u64) -> MonthName
 }
 
 // The name of the month at a place of year y, from its own first day and the next month's: two middle terms tell it, no leap place is sought.
-pub fn name_from(k: Constants, y: u64, place: u64, first: u64, next: u64) -> MonthName
-    requires { Sound k × (y < 1048576) × (place < month_count (rule_of k) y) × (first ≡ new_moon (means_of k) ((rule_of k).before y + place)) × (next ≡ new_moon (means_of k) ((rule_of k).before y + place + 1)) }
-    ensures { result ≡ name_of k ((rule_of k).before y + place) }
+pub fn name_from(k: Calendar, y: u64, place: u64, first: u64, next: u64) -> MonthName
+    requires { (y < 1048576) × (place < month_count (rule_of k.constants) y) × (first ≡ new_moon (means_of k.constants) ((rule_of k.constants).before y + place)) × (next ≡ new_moon (means_of k.constants) ((rule_of k.constants).before y + place + 1)) }
+    ensures { result ≡ name_of k.constants ((rule_of k.constants).before y + place) }
 {
     let come = term_from(k, 12 * y + place, next);
     // at place 0 no leap month has come, so that the term before it need not be asked
     let earlier = place - (0 < place) as u64;
     let had = term_from(k, 12 * y + earlier, first);
     MonthName {
-        year: y + k.first,
+        year: y + k.constants.first,
         place,
         number: number_by(come, place),
         leap: come & !had,

@@ -3,32 +3,32 @@ ghost use Rattle.std.specs.Prelude.{◌≡◌, ◌+◌, ◌*◌, ◌≤◌, ◌<
 ghost use Rattle.reckoning.specs.Rule.{month_count, leap_place, year_of};
 ghost use Rattle.reckoning.specs.Means.{new_moon, term_day};
 ghost use Rattle.reckoning.specs.Figures.{LeapNear};
-ghost use Rattle.lunisolar.specs.Calendars.{Sound, means_of, rule_of};
+ghost use Rattle.lunisolar.specs.Calendars.{means_of, rule_of};
 ghost use Rattle.lunisolar.specs.Heads.{year_months};
 
-use crate::Constants;
+use crate::Calendar;
 use crate::means::{month_length, month_of_day, new_moon_day, term_from};
 
 // Whether middle term j falls on the first day of month m or later.
-fn term_reaches(k: Constants, j: u64, m: u64) -> bool
-    requires { Sound k × (j ≤ 16777216) × (m ≤ 16777216) }
-    ensures { result ≡ leb (new_moon (means_of k) m) (term_day (means_of k) j) }
+fn term_reaches(k: Calendar, j: u64, m: u64) -> bool
+    requires { (j ≤ 16777216) × (m ≤ 16777216) }
+    ensures { result ≡ leb (new_moon (means_of k.constants) m) (term_day (means_of k.constants) j) }
 {
     term_from(k, j, new_moon_day(k, m))
 }
 
 // The months before year y: those before the month of its solstice's day.
-pub fn months_before(k: Constants, y: u64) -> u64
-    requires { Sound k × (y ≤ 1048576) }
-    ensures { result ≡ (rule_of k).before y }
+pub fn months_before(k: Calendar, y: u64) -> u64
+    requires { y ≤ 1048576 }
+    ensures { result ≡ (rule_of k.constants).before y }
 {
-    month_of_day(k, y * k.year / k.degree)
+    month_of_day(k, y * k.constants.year / k.constants.degree)
 }
 
 // The months before year y from a count that may be one short: one more where the month after so many begins on the solstice's day.
-pub fn months_from(k: Constants, y: u64, count: u64) -> u64
-    requires { Sound k × (y ≤ 1048576) × (count ≤ (rule_of k).before y) × ((rule_of k).before y ≤ count + 1) }
-    ensures { result ≡ (rule_of k).before y }
+pub fn months_from(k: Calendar, y: u64, count: u64) -> u64
+    requires { (y ≤ 1048576) × (count ≤ (rule_of k.constants).before y) × ((rule_of k.constants).before y ≤ count + 1) }
+    ensures { result ≡ (rule_of k.constants).before y }
 {
     if term_reaches(k, 12 * y, count + 1) {
         count + 1
@@ -38,9 +38,9 @@ pub fn months_from(k: Constants, y: u64, count: u64) -> u64
 }
 
 // The months of year y: a thirteenth where the next solstice falls on the first day of the month after the thirteenth or later.
-pub fn month_count(k: Constants, y: u64, before: u64) -> u64
-    requires { Sound k × (y < 1048576) × (before ≡ (rule_of k).before y) }
-    ensures { result ≡ month_count (rule_of k) y }
+pub fn month_count(k: Calendar, y: u64, before: u64) -> u64
+    requires { (y < 1048576) × (before ≡ (rule_of k.constants).before y) }
+    ensures { result ≡ month_count (rule_of k.constants) y }
 {
     12 + term_reaches(k, 12 * y + 12, before + 13) as u64
 }
@@ -48,22 +48,23 @@ pub fn month_count(k: Constants, y: u64, before: u64) -> u64
 // A place next to that of year y's leap month, or its own, if the year has one: the last at which by instants it hasn't come. By instants it has come
 // from the first place on whose term has fallen behind by the whole gap from the solstice to the next new moon; by days from there, or from one
 // or two places before.
-fn near_leap(k: Constants, y: u64, before: u64) -> u64
-    requires { Sound k × (y < 1048576) × (before ≡ (rule_of k).before y) }
-    ensures { (result < 1048576) × (0 < 12 * y + result) × LeapNear (leap_place (rule_of k) y) result }
+fn near_leap(k: Calendar, y: u64, before: u64) -> u64
+    requires { (y < 1048576) × (before ≡ (rule_of k.constants).before y) }
+    ensures { (result < 1048576) × (0 < 12 * y + result) × LeapNear (leap_place (rule_of k.constants) y) result }
 {
     // in parts of which a day has the product of the two divisors, and a term falls behind by a twelfth of its gain at each place
-    let gap = (before + 1) * k.month * k.degree - y * k.year * k.day;
-    let gain = k.year * k.day - 12 * k.degree * k.month;
+    let gap = (before + 1) * k.constants.month * k.constants.degree
+        - y * k.constants.year * k.constants.day;
+    let gain = k.constants.year * k.constants.day - 12 * k.constants.degree * k.constants.month;
     (12 * gap - 1) / gain
 }
 
 // The place of the leap month of year y, 0 where it has none, from a place that is its own or next to it; where the year has none, any place serves
 // that has a term before it. That place and the one before are looked at in every year, and what they tell is taken times 0 or 1: a jump would often
 // be guessed wrongly. The bound on the place leaves room for the figures; it need not be one of the year's.
-fn leap_beside(k: Constants, y: u64, before: u64, near: u64) -> u64
-    requires { Sound k × (y < 1048576) × (before ≡ (rule_of k).before y) × (near < 1048576) × (0 < 12 * y + near) × LeapNear (leap_place (rule_of k) y) near }
-    ensures { result ≡ leap_place (rule_of k) y }
+fn leap_beside(k: Calendar, y: u64, before: u64, near: u64) -> u64
+    requires { (y < 1048576) × (before ≡ (rule_of k.constants).before y) × (near < 1048576) × (0 < 12 * y + near) × LeapNear (leap_place (rule_of k.constants) y) near }
+    ensures { result ≡ leap_place (rule_of k.constants) y }
 {
     let m = before + near;
     let first = new_moon_day(k, m);
@@ -81,9 +82,9 @@ pub struct YearMonths {
 }
 
 // Of year y, from the months before it and a place that is its leap month's or next to it.
-pub fn months_near(k: Constants, y: u64, before: u64, near: u64) -> YearMonths
-    requires { Sound k × (y < 1048576) × (before ≡ (rule_of k).before y) × (near < 1048576) × (0 < 12 * y + near) × LeapNear (leap_place (rule_of k) y) near }
-    ensures { result ≡ year_months k y }
+pub fn months_near(k: Calendar, y: u64, before: u64, near: u64) -> YearMonths
+    requires { (y < 1048576) × (before ≡ (rule_of k.constants).before y) × (near < 1048576) × (0 < 12 * y + near) × LeapNear (leap_place (rule_of k.constants) y) near }
+    ensures { result ≡ year_months k.constants y }
 {
     let count = month_count(k, y, before);
     let leap = leap_beside(k, y, before, near);
@@ -95,17 +96,17 @@ pub fn months_near(k: Constants, y: u64, before: u64, near: u64) -> YearMonths
 }
 
 // Of year y, from the months before it.
-pub fn year_months(k: Constants, y: u64, before: u64) -> YearMonths
-    requires { Sound k × (y < 1048576) × (before ≡ (rule_of k).before y) }
-    ensures { result ≡ year_months k y }
+pub fn year_months(k: Calendar, y: u64, before: u64) -> YearMonths
+    requires { (y < 1048576) × (before ≡ (rule_of k.constants).before y) }
+    ensures { result ≡ year_months k.constants y }
 {
     months_near(k, y, before, near_leap(k, y, before))
 }
 
 // The year of month m: the last whose solstice falls before the next month's first day.
-pub fn year_of(k: Constants, m: u64) -> u64
-    requires { Sound k × (m < 16777216) }
-    ensures { result ≡ year_of (rule_of k) m }
+pub fn year_of(k: Calendar, m: u64) -> u64
+    requires { m < 16777216 }
+    ensures { result ≡ year_of (rule_of k.constants) m }
 {
-    (new_moon_day(k, m + 1) * k.degree - 1) / k.year
+    (new_moon_day(k, m + 1) * k.constants.degree - 1) / k.constants.year
 }

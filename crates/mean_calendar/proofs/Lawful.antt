@@ -11,12 +11,11 @@ use lib.Dec.{eqb, eqb→eq}
 use lib.ListN.{get_or}
 use Rattle.reckoning.proofs.Searches.{all_at}
 use Rattle.lunisolar.specs.declared.Constants.{Constants}
-
 use Rattle.walking.specs.Fields.{same_fields}
 use Rattle.walking.proofs.Walks.{Lawful}
 use Rattle.walking.proofs.Bits.{bit_eq}
 use Rattle.mean_calendar.specs.Months.{field_count, month_fields, month_of}
-use Rattle.mean_calendar.specs.Carries.{months_of, shown}
+use Rattle.mean_calendar.specs.Carries.{months_of}
 use Rattle.mean_calendar.specs.declared.MeanMonth.{MeanMonth}
 
 -- a month is told by its numbers
@@ -49,10 +48,3 @@ same_eq k r s e =
 pub lawful : (k : Constants) → Lawful (months_of k)
 unfolding month_of
 lawful k = record { month_row_lem = λ m h. refl; same_refl = same_refl k; same_eq = same_eq k }
-
--- an answer as the code returns it loses nothing
-pub lossless : (a b : Result MeanMonth Refusal) → shown a ≡ shown b → a ≡ b
-lossless (Ok r) (Ok s) e = cc
-lossless (Ok r) (Err e) q = cc
-lossless (Err e) (Ok s) q = cc
-lossless (Err e) (Err f) q = cc

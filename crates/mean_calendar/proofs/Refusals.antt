@@ -1,6 +1,9 @@
 -- The numbers returned (01, "Numbers returned") by the jobs of any calendar, as equations on all inputs, the lowest that applies first; and zero values
 -- with each refusal.
 -- Assumes nothing.
+use Rattle.mean_calendar.specs.declared.MeanHead.{MeanHead}
+use Rattle.mean_calendar.specs.declared.MeanMonth.{MeanMonth}
+use Rattle.mean_calendar.specs.declared.MeanPoint.{MeanPoint}
 use Rattle.std.specs.Prelude.{Result, Ok, Err}
 use Rattle.refusal.specs.declared.Refusal.{Refusal}
 use Rattle.refusal.specs.Numbers.{answer_number}
@@ -24,7 +27,7 @@ use Rattle.walking.proofs.HandedIn as handed
 use Rattle.mean_calendar.specs.Heads.{head_for, year_head}
 use Rattle.mean_calendar.specs.Months.{month_of, month_for, month_row, field_count, month_fields}
 use Rattle.mean_calendar.specs.Points.{is_cut, point_of, point_in, point_for, cut_point}
-use Rattle.mean_calendar.specs.Carries.{months_of, shown, genuine_fields, carried_fields}
+use Rattle.mean_calendar.specs.Carries.{months_of, genuine_fields, carried_fields}
 use Rattle.mean_calendar.specs.Answers.{zero_head, zero_month, zero_point}
 
 module _ (k : Constants) where
@@ -48,7 +51,7 @@ module _ (k : Constants) where
     pub carry_numbers : (c : ℤ) → answer_number (carried_fields k f c) ≡ pick (genuine_fields k f) (pick (in_round k.lunations (pos (named_month f) +ℤ c)) 0 5) 4
     carry_numbers c = go (genuine_fields k f) (in_round k.lunations (pos (named_month f) +ℤ c))
       where
-        go : (b i : Bool) → answer_number (shown (pick b (pick i (Ok (month_of k (nat_abs (pos (named_month f) +ℤ c)))) (Err Refusal.Carry)) (Err Refusal.Row))) ≡ pick b (pick i 0 5) 4
+        go : (b i : Bool) → answer_number ((pick b (pick i (Ok (month_of k (nat_abs (pos (named_month f) +ℤ c)))) (Err Refusal.Carry)) (Err Refusal.Row))) ≡ pick b (pick i 0 5) 4
         go true true = refl
         go true false = refl
         go false i = refl

@@ -14,7 +14,7 @@ use Rattle.lunisolar.proofs.Rounds as rounds
 use Rattle.walking.specs.Walk.{in_round, genuine}
 use Rattle.walking.proofs.Program.{inside}
 use Rattle.mean_calendar.specs.Months.{month_of, month_for, month_row}
-use Rattle.mean_calendar.specs.Carries.{months_of, shown, carried}
+use Rattle.mean_calendar.specs.Carries.{months_of, carried}
 use Rattle.mean_calendar.specs.declared.MeanMonth.{MeanMonth}
 
 module _ (k : Constants) (s : Sound k) where
@@ -30,7 +30,7 @@ module _ (k : Constants) (s : Sound k) where
   pub carry_stays : (r : MeanMonth) (c : ℤ) (x : MeanMonth) → carried k r c ≡ Ok x → (x.lunation < k.lunations) × (month_row k x.year x.place ≡ Ok x)
   carry_stays r c x e = go (pos r.lunation +ℤ c) (genuine (months_of k) r) (in_round k.lunations (pos r.lunation +ℤ c)) refl e
     where
-      go : (z : ℤ) (g i : Bool) → in_round k.lunations z ≡ i → shown (pick g (pick i (Ok (month_of k (nat_abs z))) (Err Refusal.Carry)) (Err Refusal.Row)) ≡ Ok x →
+      go : (z : ℤ) (g i : Bool) → in_round k.lunations z ≡ i → (pick g (pick i (Ok (month_of k (nat_abs z))) (Err Refusal.Carry)) (Err Refusal.Row)) ≡ Ok x →
           (x.lunation < k.lunations) × (month_row k x.year x.place ≡ Ok x)
       go z true true i e =
           let q : x ≡ month_of k (nat_abs z) = cc in

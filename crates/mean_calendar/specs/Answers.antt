@@ -14,4 +14,3 @@ zero_month =
 
 abbrev pub zero_point : MeanPoint
 zero_point = record { day = 0; remainder = record { parts = 0 }; rest = 0 }
-

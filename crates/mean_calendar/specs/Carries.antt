@@ -12,18 +12,13 @@ use Rattle.mean_calendar.specs.declared.MeanMonth.{MeanMonth}
 abbrev pub months_of : Constants → Calendar MeanMonth
 months_of k = record { size = k.lunations; row = month_of k; month = λ r. r.lunation; same = λ r s. same_fields field_count (month_fields r) (month_fields s) }
 
--- an answer as the code returns it
-abbrev pub shown : Result MeanMonth Refusal → Result MeanMonth Refusal
-shown (Ok month) = Ok month
-shown (Err e) = Err e
-
 -- the carry of a month by a count
 abbrev pub carried : Constants → MeanMonth → ℤ → Result MeanMonth Refusal
-carried k r c = shown (carry (months_of k) r c)
+carried k r c = carry (months_of k) r c
 
 -- a month handed in as numbers: whether it is genuine, and its carry by a count
 abbrev pub genuine_fields : Constants → List ℕ → Bool
 genuine_fields k f = genuine_by (months_of k) field_count month_fields f
 
 abbrev pub carried_fields : Constants → List ℕ → ℤ → Result MeanMonth Refusal
-carried_fields k f c = shown (carried_by (months_of k) field_count month_fields f c)
+carried_fields k f c = carried_by (months_of k) field_count month_fields f c

@@ -1,13 +1,12 @@
 // A month carried by a signed count of months.
 ghost use Rattle.std.specs.Prelude.{◌≡◌};
-ghost use Rattle.lunisolar.specs.Calendars.{Sound};
 ghost use Rattle.mean_calendar.specs.Months.{month_fields};
 ghost use Rattle.mean_calendar.specs.Carries.{genuine_fields, carried_fields};
 
-use refusal::Refusal;
-use crate::months::month_of;
 use crate::MeanMonth;
-use lunisolar::Constants;
+use crate::months::month_of;
+use lunisolar::Calendar;
+use refusal::Refusal;
 use walking::fields::{bit, same_fields};
 
 // How many numbers a month has.
@@ -36,12 +35,11 @@ impl MeanMonth {
 }
 
 // Whether a month handed in as numbers is the one of the calendar that it names.
-pub fn is_genuine(k: Constants, fields: &MonthFields) -> bool
-    requires { Sound k }
-    ensures { result ≡ genuine_fields k fields.now }
+pub fn is_genuine(k: Calendar, fields: &MonthFields) -> bool
+    ensures { result ≡ genuine_fields k.constants fields.now }
 {
     let m = fields[0];
-    if k.lunations <= m {
+    if k.constants.lunations <= m {
         return false;
     }
     let own = month_of(k, m).fields();
@@ -50,16 +48,14 @@ pub fn is_genuine(k: Constants, fields: &MonthFields) -> bool
 
 // The month so many months on, or back, of a month handed in as numbers that were tested.
 pub fn carry_tested(
-    k: Constants,
+    k: Calendar,
     genuine: bool,
     fields: &MonthFields,
     count: i64,
 ) -> Result<MeanMonth, Refusal>
-    requires { Sound k × (genuine ≡ genuine_fields k fields.now) }
-    ensures { result ≡ carried_fields k fields.now count }
+    requires { genuine ≡ genuine_fields k.constants fields.now }
+    ensures { result ≡ carried_fields k.constants fields.now count }
 {
-    match walking::land(k.lunations, genuine, fields[0], count) {
-        Ok(m) => Ok(month_of(k, m)),
-        Err(e) => Err(e),
-    }
+    let m = walking::land(k.constants.lunations, genuine, fields[0], count)?;
+    Ok(month_of(k, m))
 }

@@ -5,7 +5,6 @@
 use parts::{DayParts, DegreeParts};
 use refusal::Refusal;
 
-pub mod answers;
 pub mod carries;
 pub mod cuts;
 pub mod heads;
@@ -13,7 +12,7 @@ pub mod months;
 pub mod parts;
 
 // A year: the months before it, its month count, its leap place (0 for none), and its winter solstice's day and remainder.
-#[derive(Clone, Copy)]
+#[derive(Clone, Copy, Default)]
 pub struct MeanHead {
     pub before: u64,
     pub months: u64,
@@ -24,7 +23,7 @@ pub struct MeanHead {
 
 // A month: its number from the origin (積月), its year and place, its month number (11 at place 0), whether it is the leap month (閏月), its first day
 // with the small remainder (小餘) of its new moon, and its length. These are 01's eight fields: every calendar's rows have them.
-#[derive(Clone, Copy)]
+#[derive(Clone, Copy, Default)]
 pub struct MeanMonth {
     pub lunation: u64,
     pub year: u64,
@@ -37,10 +36,9 @@ pub struct MeanMonth {
 }
 
 // A point of a cut of the year: its day, its remainder over the degree divisor, and the rest of a part over the cut.
-#[derive(Clone, Copy)]
+#[derive(Clone, Copy, Default)]
 pub struct MeanPoint {
     pub day: u64,
     pub remainder: DegreeParts,
     pub rest: u64,
 }
-

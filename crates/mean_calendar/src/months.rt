@@ -1,19 +1,19 @@
 // The months of a calendar.
 ghost use Rattle.std.specs.Prelude.{◌≡◌, ◌*◌, ◌<◌};
 ghost use Rattle.reckoning.specs.Rule.{year_of};
-ghost use Rattle.lunisolar.specs.Calendars.{Sound, rule_of, lunation_at};
+ghost use Rattle.lunisolar.specs.Calendars.{rule_of, lunation_at};
 ghost use Rattle.lunisolar.specs.Names.{name_of};
 ghost use Rattle.lunisolar.specs.Dates.{month_days};
 ghost use Rattle.mean_calendar.specs.Parts.{over_day};
 ghost use Rattle.mean_calendar.specs.Heads.{year_head};
 ghost use Rattle.mean_calendar.specs.Months.{month_of, month_row};
 
-use refusal::Refusal;
 use crate::parts::{DayShare, over_day};
 use crate::{MeanHead, MeanMonth};
 use lunisolar::means::month_length;
 use lunisolar::naming::MonthName;
-use lunisolar::Constants;
+use lunisolar::{Calendar, Constants};
+use refusal::Refusal;
 
 // The month whose name, new moon and length are at hand. Nothing is worked out, so that the constants stand in the contract alone.
 pub fn month_by(
@@ -40,29 +40,29 @@ pub fn month_by(
 }
 
 // The day and small remainder of a month's new moon.
-fn new_moon(k: Constants, lunation: u64) -> DayShare
-    requires { Sound k × (lunation < k.lunations) }
-    ensures { result ≡ over_day k (lunation * k.month) }
+fn new_moon(k: Calendar, lunation: u64) -> DayShare
+    requires { lunation < k.constants.lunations }
+    ensures { result ≡ over_day k.constants (lunation * k.constants.month) }
 {
-    over_day(k, lunation * k.month)
+    over_day(k, lunation * k.constants.month)
 }
 
 // The month whose year, counted from 0, and the months before that year are at hand.
-fn month_from(k: Constants, y: u64, before: u64, lunation: u64) -> MeanMonth
-    requires { Sound k × (lunation < k.lunations) × (y ≡ year_of (rule_of k) lunation) × (before ≡ (rule_of k).before y) }
-    ensures { result ≡ month_of k lunation }
+fn month_from(k: Calendar, y: u64, before: u64, lunation: u64) -> MeanMonth
+    requires { (lunation < k.constants.lunations) × (y ≡ year_of (rule_of k.constants) lunation) × (before ≡ (rule_of k.constants).before y) }
+    ensures { result ≡ month_of k.constants lunation }
 {
     let moon = new_moon(k, lunation);
     let length = month_length(k, lunation);
     let next = moon.whole + length;
     let name = lunisolar::naming::name_from(k, y, lunation - before, moon.whole, next);
-    month_by(k, name, lunation, moon, length)
+    month_by(k.constants, name, lunation, moon, length)
 }
 
 // The month worked out from the origin.
-pub fn month_of(k: Constants, lunation: u64) -> MeanMonth
-    requires { Sound k × (lunation < k.lunations) }
-    ensures { result ≡ month_of k lunation }
+pub fn month_of(k: Calendar, lunation: u64) -> MeanMonth
+    requires { lunation < k.constants.lunations }
+    ensures { result ≡ month_of k.constants lunation }
 {
     let y = lunisolar::rule::year_of(k, lunation);
     let before = lunisolar::rule::months_before(k, y);
@@ -70,26 +70,28 @@ pub fn month_of(k: Constants, lunation: u64) -> MeanMonth
 }
 
 // The month at a place of a year, which was sought there.
-pub fn month_for(k: Constants, year: u64, place: u64, month: Result<u64, Refusal>) -> Result<MeanMonth, Refusal>
-    requires { Sound k × (month ≡ lunation_at k year place) }
-    ensures { result ≡ month_row k year place }
+#[tactic(auto, unfolding(crate::specs::Months::month_for))]
+pub fn month_for(
+    k: Calendar,
+    year: u64,
+    place: u64,
+    month: Result<u64, Refusal>,
+) -> Result<MeanMonth, Refusal>
+    requires { month ≡ lunation_at k.constants year place }
+    ensures { result ≡ month_row k.constants year place }
 {
-    match month {
-        Ok(m) => {
-            // the month less its place is the months before its year
-            Ok(month_from(k, year - k.first, m - place, m))
-        }
-        Err(e) => Err(e),
-    }
+    let m = month?;
+    // the month less its place is the months before its year
+    Ok(month_from(k, year - k.constants.first, m - place, m))
 }
 
 // The month at a place of a year whose head is at hand: one head serves all months of its year.
-pub fn month_under(k: Constants, year: u64, head: MeanHead, place: u64) -> MeanMonth
-    requires { Sound k × (Ok head ≡ year_head k year) × (place < head.months) }
-    ensures { Ok result ≡ month_row k year place }
+pub fn month_under(k: Calendar, year: u64, head: MeanHead, place: u64) -> MeanMonth
+    requires { (Ok head ≡ year_head k.constants year) × (place < head.months) }
+    ensures { Ok result ≡ month_row k.constants year place }
 {
-    let name = lunisolar::naming::name_under(k, year - k.first, head.leap, place);
+    let name = lunisolar::naming::name_under(k, year - k.constants.first, head.leap, place);
     let lunation = head.before + place;
     let length = month_length(k, lunation);
-    month_by(k, name, lunation, new_moon(k, lunation), length)
+    month_by(k.constants, name, lunation, new_moon(k, lunation), length)
 }

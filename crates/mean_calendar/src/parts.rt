@@ -1,18 +1,17 @@
 // Remainders over a calendar's own two divisors: separate units, each with its own division.
 ghost use Rattle.std.specs.Prelude.{◌≡◌};
-ghost use Rattle.lunisolar.specs.Calendars.{Sound};
 ghost use Rattle.mean_calendar.specs.Parts.{over_day, over_degree};
 
-use lunisolar::Constants;
+use lunisolar::Calendar;
 
 // A remainder over the day divisor (日法).
-#[derive(Clone, Copy)]
+#[derive(Clone, Copy, Default)]
 pub struct DayParts {
     pub parts: u64,
 }
 
 // A remainder over the degree divisor (度法, 蔀法).
-#[derive(Clone, Copy)]
+#[derive(Clone, Copy, Default)]
 pub struct DegreeParts {
     pub parts: u64,
 }
@@ -31,26 +30,24 @@ pub struct DegreeShare {
     pub rest: DegreeParts,
 }
 
-pub fn over_day(k: Constants, parts: u64) -> DayShare
-    requires { Sound k }
-    ensures { result ≡ over_day k parts }
+pub fn over_day(k: Calendar, parts: u64) -> DayShare
+    ensures { result ≡ over_day k.constants parts }
 {
     DayShare {
-        whole: parts / k.day,
+        whole: parts / k.constants.day,
         rest: DayParts {
-            parts: parts % k.day,
+            parts: parts % k.constants.day,
         },
     }
 }
 
-pub fn over_degree(k: Constants, parts: u64) -> DegreeShare
-    requires { Sound k }
-    ensures { result ≡ over_degree k parts }
+pub fn over_degree(k: Calendar, parts: u64) -> DegreeShare
+    ensures { result ≡ over_degree k.constants parts }
 {
     DegreeShare {
-        whole: parts / k.degree,
+        whole: parts / k.constants.degree,
         rest: DegreeParts {
-            parts: parts % k.degree,
+            parts: parts % k.constants.degree,
         },
     }
 }

@@ -7,12 +7,10 @@ use native.Mathlib.Omega.{arith}
 use Rattle.refusal.specs.declared.Refusal.{Refusal}
 use Rattle.lunisolar.specs.declared.Constants.{Constants}
 use Rattle.walking.proofs.Demand.{Demand, demand}
-use Rattle.mean_calendar.specs.Carries.{months_of, shown}
-use Rattle.mean_calendar.proofs.Lawful.{lawful, lossless}
+use Rattle.mean_calendar.specs.Carries.{months_of}
+use Rattle.mean_calendar.proofs.Lawful.{lawful}
 use Rattle.mean_walk.specs.Walked.{walked}
 
 -- WALKING AND DIRECT WORKING ARE ONE THING: for every month and every list of counts
-pub demand_3 : (k : Constants) → Demand (months_of k) shown (λ r cs. Ok (walked k r cs)) (Err Refusal.Row)
-demand_3 k =
-    demand (months_of k) (lawful k) shown lossless (λ r cs. Ok (walked k r cs)) (Err Refusal.Row)
-    (λ r cs e. let bad : ◌≡◌ {A = ℕ} 0 1 = cc in omega arith)
+pub demand_3 : (k : Constants) → Demand (months_of k) (walked k)
+demand_3 k = demand (months_of k) (lawful k) (walked k)

@@ -2,11 +2,10 @@
 #![tactic(auto)]
 
 ghost use Rattle.std.specs.Prelude.{◌≡◌};
-ghost use Rattle.lunisolar.specs.Calendars.{Sound};
 ghost use Rattle.mean_calendar.specs.Carries.{genuine_fields};
 ghost use Rattle.mean_walk.specs.Walked.{walk_answer_fields, zero_walk};
 
-use lunisolar::Constants;
+use lunisolar::Calendar;
 use mean_calendar::MeanMonth;
 use mean_calendar::carries::MonthFields;
 use refusal::Refusal;
@@ -22,16 +21,16 @@ pub struct MeanWalk {
 // A walk from a month handed in as numbers that were tested. The number of the month alone is moved, and one month worked out at the end: by demand 3
 // that is the walk which carries the month by each count.
 pub fn walk_tested(
-    k: Constants,
+    k: Calendar,
     genuine: bool,
     start: &MonthFields,
     counts: &[i64],
 ) -> Result<MeanWalk, Refusal>
-    requires { Sound k × (genuine ≡ genuine_fields k start.now) }
-    ensures { result ≡ walk_answer_fields k start.now counts.now }
+    requires { genuine ≡ genuine_fields k.constants start.now }
+    ensures { result ≡ walk_answer_fields k.constants start.now counts.now }
 {
     if genuine {
-        let end = walking::arrive(k.lunations, start[0], counts);
+        let end = walking::arrive(k.constants.lunations, start[0], counts);
         let month = mean_calendar::months::month_of(k, end.month);
         Ok(MeanWalk {
             month,

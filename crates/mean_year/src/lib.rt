@@ -2,13 +2,12 @@
 #![tactic(auto)]
 
 ghost use Rattle.std.specs.Prelude.{◌≡◌, map, length};
-ghost use Rattle.lunisolar.specs.Calendars.{Sound};
 ghost use Rattle.mean_calendar.specs.Heads.{year_head};
 ghost use Rattle.mean_calendar.specs.Months.{month_fields};
 ghost use Rattle.mean_year.specs.Years.{places, month_at, mean_year};
 
 use refusal::Refusal;
-use lunisolar::Constants;
+use lunisolar::Calendar;
 use mean_calendar::carries::MonthFields;
 use mean_calendar::MeanMonth;
 
@@ -23,9 +22,9 @@ pub struct MeanYear {
 }
 
 // The month at a place of the year with that head; zeros where there is none.
-pub fn month_at(k: Constants, year: u64, head: Result<MeanHead, Refusal>, place: u64) -> MeanMonth
-    requires { Sound k × (head ≡ year_head k year) }
-    ensures { result ≡ month_at k year place }
+pub fn month_at(k: Calendar, year: u64, head: Result<MeanHead, Refusal>, place: u64) -> MeanMonth
+    requires { head ≡ year_head k.constants year }
+    ensures { result ≡ month_at k.constants year place }
 {
     match head {
         Ok(head) => {
@@ -40,9 +39,9 @@ pub fn month_at(k: Constants, year: u64, head: Result<MeanHead, Refusal>, place:
 }
 
 // The year with that head.
-pub fn year_under(k: Constants, year: u64, head: Result<MeanHead, Refusal>) -> MeanYear
-    requires { Sound k × (head ≡ year_head k year) }
-    ensures { result ≡ mean_year k year }
+pub fn year_under(k: Calendar, year: u64, head: Result<MeanHead, Refusal>) -> MeanYear
+    requires { head ≡ year_head k.constants year }
+    ensures { result ≡ mean_year k.constants year }
 {
     let mut months = [MeanMonth::default(); PLACES];
     let mut i = 0;
@@ -54,9 +53,9 @@ pub fn year_under(k: Constants, year: u64, head: Result<MeanHead, Refusal>) -> M
 }
 
 // The months of the year with that head, as numbers, in a lent list of thirteen: so they are made where they are wanted, and nothing is copied.
-pub fn write_months(k: Constants, year: u64, head: Result<MeanHead, Refusal>, rows: &mut [MonthFields])
-    requires { Sound k × (head ≡ year_head k year) × (length rows.old ≡ places) }
-    ensures { rows.new ≡ map month_fields (mean_year k year).months }
+pub fn write_months(k: Calendar, year: u64, head: Result<MeanHead, Refusal>, rows: &mut [MonthFields])
+    requires { (head ≡ year_head k.constants year) × (length rows.old ≡ places) }
+    ensures { rows.new ≡ map month_fields (mean_year k.constants year).months }
 {
     let mut i = 0;
     while i < PLACES {

@@ -14,17 +14,15 @@ use Rattle.walking.proofs.Demand.{Demand, demand, tested}
 use Rattle.units.specs.Xinghe.{round_months}
 use Rattle.moon.specs.NewMoons.{monthly_addition}
 use Rattle.calendar.specs.Rows.{row_of}
-use Rattle.calendar.specs.Carries.{months, shown, carried}
+use Rattle.calendar.specs.Carries.{months, carried}
 use Rattle.calendar.specs.declared.MonthRow.{MonthRow}
-use Rattle.calendar.proofs.Lawful.{lawful, lossless}
+use Rattle.calendar.proofs.Lawful.{lawful}
 use Rattle.calendar.proofs.Months.{moon_of, monthly}
 use Rattle.walk.specs.Walked.{walked}
 
 -- WALKING AND DIRECT WORKING ARE ONE THING: for every row and every list of counts
-pub demand_3 : Demand months shown (λ r cs. Ok (walked r cs)) (Err Refusal.Row)
-demand_3 =
-    demand months lawful shown lossless (λ r cs. Ok (walked r cs)) (Err Refusal.Row)
-    (λ r cs e. let bad : ◌≡◌ {A = ℕ} 0 1 = cc in omega arith)
+pub demand_3 : Demand months walked
+demand_3 = demand months lawful walked
 
 -- A carry by 1 of every genuine row that has a next is answered with the next month's row, whose day and remainder are those that the treatise's
 -- monthly addition gives

@@ -24,10 +24,10 @@ use Rattle.mean_calendar.proofs.LeapYears.{Twelve, Thirteen}
 use Rattle.mean_calendar.proofs.Stays.{month_to_place}
 use Rattle.zhengguang.specs.Zhengguang.{N, P, M, round_years, round_months, round_days, zhengguang, means, rule}
 use Rattle.zhengguang.specs.Rows.{row_of, row_for, month_row}
-use Rattle.zhengguang.specs.Carries.{rows, shown, carried, walked}
+use Rattle.zhengguang.specs.Carries.{rows, carried, walked}
 use Rattle.zhengguang.specs.declared.ZhengguangRow.{ZhengguangRow}
 use Rattle.zhengguang.proofs.Sound.{sound}
-use Rattle.zhengguang.proofs.Lawful.{lawful, lossless}
+use Rattle.zhengguang.proofs.Lawful.{lawful}
 
 -- THE LAST YEAR ENDS WITH MONTH 4,497,119, AND THAT MONTH WITH DAY 132,802,619
 pub round_months_lem : rule.before round_years ≡ round_months
@@ -49,10 +49,8 @@ pub date_day_date : (n p i d : ℕ) → day_of_date zhengguang n p i ≡ Ok (day
 date_day_date = dates.date_day_date zhengguang sound
 
 -- DEMAND 3, over its rows and all lists of counts
-pub demand_3 : Demand rows shown (λ r cs. Ok (walked r cs)) (Err Refusal.Row)
-demand_3 =
-    demand rows lawful shown lossless (λ r cs. Ok (walked r cs)) (Err Refusal.Row)
-    (λ r cs e. let bad : ◌≡◌ {A = ℕ} 0 1 = cc in omega arith)
+pub demand_3 : Demand rows walked
+demand_3 = demand rows lawful walked
 
 -- a month's row is the row at its year and place
 in_months : (m : ℕ) → m < round_months → ((row_of m).mean.lunation < round_months) × (month_row (row_of m).mean.year (row_of m).mean.place ≡ Ok (row_of m))
@@ -64,7 +62,7 @@ pub carry_stays : (r : ZhengguangRow) (c : ℤ) (x : ZhengguangRow) → carried 
     (x.mean.lunation < round_months) × (month_row x.mean.year x.mean.place ≡ Ok x)
 carry_stays r c x e = go (pos r.mean.lunation +ℤ c) (genuine rows r) (in_round round_months (pos r.mean.lunation +ℤ c)) refl e
   where
-    go : (z : ℤ) (g i : Bool) → in_round round_months z ≡ i → shown (pick g (pick i (Ok (row_of (nat_abs z))) (Err Refusal.Carry)) (Err Refusal.Row)) ≡ Ok x →
+    go : (z : ℤ) (g i : Bool) → in_round round_months z ≡ i → (pick g (pick i (Ok (row_of (nat_abs z))) (Err Refusal.Carry)) (Err Refusal.Row)) ≡ Ok x →
         (x.mean.lunation < round_months) × (month_row x.mean.year x.mean.place ≡ Ok x)
     go z true true i e =
         let q : x ≡ row_of (nat_abs z) = cc in

@@ -17,7 +17,7 @@ use Rattle.walking.proofs.Walks.{Lawful}
 use Rattle.mean_calendar.specs.Months.{month_of, month_fields}
 use Rattle.mean_calendar.proofs.Lawful.{month_by}
 use Rattle.zhengguang.specs.Rows.{field_count, row_fields, row_of}
-use Rattle.zhengguang.specs.Carries.{rows, shown}
+use Rattle.zhengguang.specs.Carries.{rows}
 use Rattle.zhengguang.specs.declared.ZhengguangRow.{ZhengguangRow}
 
 eqb_same : (n : ℕ) → eqb n n ≡ true
@@ -42,10 +42,3 @@ same_eq r s e =
 pub lawful : Lawful rows
 unfolding row_of month_of
 lawful = record { month_row_lem = λ m h. refl; same_refl = same_refl; same_eq = same_eq }
-
--- an answer as the code returns it loses nothing
-pub lossless : (a b : Result ZhengguangRow Refusal) → shown a ≡ shown b → a ≡ b
-lossless (Ok r) (Ok s) e = cc
-lossless (Ok r) (Err e) q = cc
-lossless (Err e) (Ok s) q = cc
-lossless (Err e) (Err f) q = cc

@@ -26,7 +26,7 @@ use Rattle.zhengguang.specs.Zhengguang.{zhengguang, round_months}
 use Rattle.zhengguang.specs.Nodes.{nodes_for, nodes_at}
 use Rattle.zhengguang.specs.Rows.{head_by, year_head, row_of, row_for, month_row, field_count, row_fields}
 use Rattle.zhengguang.specs.Answers.{zero_head, zero_row, zero_nodes}
-use Rattle.zhengguang.specs.Carries.{rows, shown, genuine_fields, carried_fields, walked, walk_answer, walk_answer_fields, zero_walk}
+use Rattle.zhengguang.specs.Carries.{rows, genuine_fields, carried_fields, walked, walk_answer, walk_answer_fields, zero_walk}
 use Rattle.zhengguang.specs.declared.ZhengguangRow.{ZhengguangRow}
 
 pub head_numbers : (n : ℕ) → answer_number (year_head n) ≡ pick (is_year zhengguang n) 0 1
@@ -54,7 +54,7 @@ module _ (f : List ℕ) where
   pub carry_numbers : (c : ℤ) → answer_number (carried_fields f c) ≡ pick (genuine_fields f) (pick (in_round round_months (pos (named_month f) +ℤ c)) 0 5) 4
   carry_numbers c = go (genuine_fields f) (in_round round_months (pos (named_month f) +ℤ c))
     where
-      go : (b i : Bool) → answer_number (shown (pick b (pick i (Ok (row_of (nat_abs (pos (named_month f) +ℤ c)))) (Err Refusal.Carry)) (Err Refusal.Row))) ≡ pick b (pick i 0 5) 4
+      go : (b i : Bool) → answer_number ((pick b (pick i (Ok (row_of (nat_abs (pos (named_month f) +ℤ c)))) (Err Refusal.Carry)) (Err Refusal.Row))) ≡ pick b (pick i 0 5) 4
       go true true = refl
       go true false = refl
       go false i = refl

@@ -15,21 +15,16 @@ use Rattle.zhengguang.specs.declared.walks.ZhengguangWalk.{ZhengguangWalk}
 abbrev pub rows : Calendar ZhengguangRow
 rows = record { size = round_months; row = row_of; month = λ r. r.mean.lunation; same = λ r s. same_fields field_count (row_fields r) (row_fields s) }
 
--- an answer as the code returns it
-abbrev pub shown : Result ZhengguangRow Refusal → Result ZhengguangRow Refusal
-shown (Ok row) = Ok row
-shown (Err e) = Err e
-
 -- the carry of a row by a count
 abbrev pub carried : ZhengguangRow → ℤ → Result ZhengguangRow Refusal
-carried row c = shown (carry rows row c)
+carried row c = carry rows row c
 
 -- a row handed in as numbers: whether it is genuine, and its carry by a count
 abbrev pub genuine_fields : List ℕ → Bool
 genuine_fields f = genuine_by rows field_count row_fields f
 
 abbrev pub carried_fields : List ℕ → ℤ → Result ZhengguangRow Refusal
-carried_fields f c = shown (carried_by rows field_count row_fields f c)
+carried_fields f c = carried_by rows field_count row_fields f c
 
 -- a walk, carry by carry: its last row, the sum of the answered counts in whole numbers, and how many were answered
 abbrev pub walked : ZhengguangRow → List ℤ → ZhengguangWalk

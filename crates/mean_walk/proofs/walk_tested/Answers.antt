@@ -24,22 +24,21 @@ from k start tested e h = in_round_lem k.lunations (named_month start) _ (sym e 
 
 pub arrive-end-requires : goal.arrive-end-requires
 arrive-end-requires c =
-    (from c.args.k c.args.start.now c.args.genuine c.requires.1 c.if-genuine.true, omega (arith, lunations_bound c.args.k c.requires.0))
+    (from c.args.k.constants c.args.start.now c.args.genuine c.requires c.if-genuine.true, omega (arith, lunations_bound c.args.k.constants c.args.k.sound))
 
 pub month_of-month-requires : goal.month_of-month-requires
-month_of-month-requires c =
-    (c.requires.0, rw c.arrive-end.ensures (final_below c.args.k.lunations c.args.counts.now (named_month c.args.start.now) (from c.args.k c.args.start.now c.args.genuine c.requires.1 c.if-genuine.true)))
+month_of-month-requires c =     (rw c.arrive-end.ensures (final_below c.args.k.constants.lunations c.args.counts.now (named_month c.args.start.now) (from c.args.k.constants c.args.start.now c.args.genuine c.requires c.if-genuine.true)))
 
 pub returns-then-genuine : goal.returns-then-genuine
 returns-then-genuine c =
     let x = c.args in
-    let k = x.k in
+    let k = x.k.constants in
     let m : ℕ = named_month x.start.now in
     let cs = x.counts.now in
     let e = c.arrive-end.ensures in
     let held : to_z w64 (of_z w64 c.arrive-end.result.sum) ≡ c.arrive-end.result.sum = search rules in
     let month : c.month_of-month.result ≡ walk (months_of k) (month_of k m) cs =
-    c.month_of-month.ensures ∙ ap (λ (y : Arrival). month_of k y.month) e ∙ arrived_row (months_of k) (lawful k) m (from c.args.k c.args.start.now c.args.genuine c.requires.1 c.if-genuine.true) cs in
-    let sum : c.arrive-end.result.sum ≡ total (months_of k) (month_of k m) cs = ap (λ (y : Arrival). y.sum) e ∙ arrived_sum (months_of k) (lawful k) m (from c.args.k c.args.start.now c.args.genuine c.requires.1 c.if-genuine.true) cs in
-    let hits : c.arrive-end.result.answered ≡ number (months_of k) (month_of k m) cs = ap (λ (y : Arrival). y.answered) e ∙ arrived_number (months_of k) (lawful k) m (from c.args.k c.args.start.now c.args.genuine c.requires.1 c.if-genuine.true) cs in
-    rw (sym c.requires.1 ∙ c.if-genuine.true, held, sum, month, hits) refl
+    c.month_of-month.ensures ∙ ap (λ (y : Arrival). month_of k y.month) e ∙ arrived_row (months_of k) (lawful k) m (from c.args.k.constants c.args.start.now c.args.genuine c.requires c.if-genuine.true) cs in
+    let sum : c.arrive-end.result.sum ≡ total (months_of k) (month_of k m) cs = ap (λ (y : Arrival). y.sum) e ∙ arrived_sum (months_of k) (lawful k) m (from c.args.k.constants c.args.start.now c.args.genuine c.requires c.if-genuine.true) cs in
+    let hits : c.arrive-end.result.answered ≡ number (months_of k) (month_of k m) cs = ap (λ (y : Arrival). y.answered) e ∙ arrived_number (months_of k) (lawful k) m (from c.args.k.constants c.args.start.now c.args.genuine c.requires c.if-genuine.true) cs in
+    rw (sym c.requires ∙ c.if-genuine.true, held, sum, month, hits) refl

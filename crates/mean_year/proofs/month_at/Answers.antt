@@ -9,18 +9,18 @@ use Rattle.mean_calendar.proofs.Found.{past_count, no_year}
 use Rattle.mean_year.proofs.month_at.Goals as goal
 
 -- the head that the match binds
-is_head : (a : goal.After-zero) → (let x = a.args in Ok a.in-Ok.head ≡ year_head x.k x.year)
-is_head a = sym a.in-Ok.is ∙ a.requires.1
+is_head : (a : goal.After-zero) → (let x = a.args in Ok a.in-Ok.head ≡ year_head x.k.constants x.year)
+is_head a = sym a.in-Ok.is ∙ a.requires
 
 pub returns-else-place-head : goal.returns-else-place-head
 unfolding month_for
 returns-else-place-head c =
     let x = c.args in
-    c.zero.ensures ∙ ap (λ (m : Result ℕ Refusal). result_unwrap_or (month_for x.k m) zero_month) (sym (past_count x.k x.year c.in-Ok.head (is_head c) x.place c.if-place-head.false))
+    c.zero.ensures ∙ ap (λ (m : Result ℕ Refusal). result_unwrap_or (month_for x.k.constants m) zero_month) (sym (past_count x.k.constants x.year c.in-Ok.head (is_head c) x.place c.if-place-head.false))
 
 pub returns-in-Err : goal.returns-in-Err
 unfolding month_for
 returns-in-Err c =
     let x = c.args in
     c.zero-in-Err.ensures
-    ∙ ap (λ (m : Result ℕ Refusal). result_unwrap_or (month_for x.k m) zero_month) (sym (no_year x.k x.year _ (sym c.in-Err.is ∙ c.requires.1) x.place))
+    ∙ ap (λ (m : Result ℕ Refusal). result_unwrap_or (month_for x.k.constants m) zero_month) (sym (no_year x.k.constants x.year _ (sym c.in-Err.is ∙ c.requires) x.place))

@@ -5,4 +5,4 @@ use Rattle.lunisolar.proofs.means.month_length.Goals as goal
 
 pub returns : goal.returns
 unfolding new_moon_rest
-returns c = c.length_by.ensures ∙ length_is c.args.k c.requires.0 c.args.m
+returns c = c.length_by.ensures ∙ length_is c.args.k.constants c.args.k.sound c.args.m

@@ -4,4 +4,4 @@ use Rattle.lunisolar.specs.Calendars.{means_of}
 use Rattle.lunisolar.proofs.means.month_of_day.Goals as goal
 
 pub returns : goal.returns
-returns c = sym (month_of_day (means_of c.args.k) c.requires.0.moon c.args.d)
+returns c = sym (month_of_day (means_of c.args.k.constants) c.args.k.sound.moon c.args.d)

@@ -3,4 +3,4 @@ use Rattle.lunisolar.specs.Calendars.{means_of}
 use Rattle.lunisolar.proofs.means.term_from.Goals as goal
 
 pub returns : goal.returns
-returns c = term_from (means_of c.args.k) c.requires.0.sun c.args.j c.args.d
+returns c = term_from (means_of c.args.k.constants) c.args.k.sound.sun c.args.j c.args.d

@@ -32,41 +32,41 @@ module _ (k : Constants) (s : Sound k) (y : ℕ) where
       (comes_at _ p)
 
 place_in : (a : goal.Start) → a.args.place ≤ 12
-place_in a = omega (arith, a.requires.2, count_bound a.args.k a.requires.0 a.args.y)
+place_in a = omega (arith, a.requires.1, count_bound a.args.k.constants a.args.k.sound a.args.y)
 
 -- the days of the month and of the next
-high : (a : goal.Start) (m : ℕ) → m ≤ (rule_of a.args.k).before a.args.y + 13 → new_moon (means_of a.args.k) m ≤ 1073741824
-high a m h = omega (arith, h, a.requires.1, moon_high (means_of a.args.k) a.requires.0.moon m, before_bound a.args.k a.requires.0 a.args.y)
+high : (a : goal.Start) (m : ℕ) → m ≤ (rule_of a.args.k.constants).before a.args.y + 13 → new_moon (means_of a.args.k.constants) m ≤ 1073741824
+high a m h = omega (arith, h, a.requires.0, moon_high (means_of a.args.k.constants) a.args.k.sound.moon m, before_bound a.args.k.constants a.args.k.sound a.args.y)
 
 pub overflow_add-y : goal.overflow_add-y
-overflow_add-y c = omega (arith, place_in c, c.requires.1)
+overflow_add-y c = omega (arith, place_in c, c.requires.0)
 
 pub term_from-come-requires : goal.term_from-come-requires
-term_from-come-requires c = (c.requires.0, omega (arith, place_in c, c.requires.1), rw c.requires.4 (high c _ (omega (arith, place_in c))))
+term_from-come-requires c = (omega (arith, place_in c, c.requires.0), rw c.requires.3 (high c _ (omega (arith, place_in c))))
 
 pub overflow_add-y-2 : goal.overflow_add-y-2
-overflow_add-y-2 c = omega (arith, place_in c.before, c.requires.1)
+overflow_add-y-2 c = omega (arith, place_in c.before, c.requires.0)
 
 pub term_from-had-requires : goal.term_from-had-requires
-term_from-had-requires c = (c.requires.0, omega (arith, place_in c.before, c.requires.1), rw c.requires.3 (high c.before _ (omega (arith, place_in c.before))))
+term_from-had-requires c = (omega (arith, place_in c.before, c.requires.0), rw c.requires.2 (high c.before _ (omega (arith, place_in c.before))))
 
 pub number_by-requires : goal.number_by-requires
 number_by-requires c = omega (arith, place_in c.before.before.before)
 
 pub returns : goal.returns
 returns c =
-    let k = c.args.k in
-    let s = c.requires.0 in
+    let k = c.args.k.constants in
+    let s = c.args.k.sound in
     let y = c.args.y in
     let p = c.args.place in
     rw (
       c.number_by.ensures,
       c.term_from-had.ensures,
       c.term_from-come.ensures,
-      c.requires.4,
       c.requires.3,
+      c.requires.2,
       add-one ((rule_of k).before y + p),
-      name_at_lem k s y p c.requires.2,
+      name_at_lem k s y p c.requires.1,
       mark k s y p (place_in c.before.before.before.before),
       leap_come_lem (means_of k) s.moon s.sun y p (place_in c.before.before.before.before),
     )

@@ -5,7 +5,7 @@ use Rattle.lunisolar.proofs.Rounds.{name_at_lem}
 use Rattle.lunisolar.proofs.naming.name_under.Goals as goal
 
 place_in : (a : goal.After-struct_known-1) → a.args.place < 13
-place_in a = omega (arith, a.requires.3, count_bound a.args.k a.requires.0 a.args.y)
+place_in a = omega (arith, a.requires.2, count_bound a.args.k.constants a.args.k.sound a.args.y)
 
 pub number_at-requires : goal.number_at-requires
 number_at-requires c = place_in c
@@ -15,4 +15,4 @@ leap_at-requires c = place_in c.before
 
 pub returns : goal.returns
 returns c =
-    cc (name_at_lem c.args.k c.requires.0 c.args.y c.args.place c.requires.3, c.requires.2, c.leap_at.ensures, c.number_at.ensures)
+    cc (name_at_lem c.args.k.constants c.args.k.sound c.args.y c.args.place c.requires.2, c.requires.1, c.leap_at.ensures, c.number_at.ensures)

@@ -18,7 +18,7 @@ use Rattle.lunisolar.proofs.Figures.{one_at_most, place_is}
 use Rattle.lunisolar.proofs.rule.leap_beside.Goals as goal
 
 room : (a : goal.Start) → a.args.before ≤ 13 * a.args.y
-room a = rw a.requires.2 (before_bound a.args.k a.requires.0 a.args.y)
+room a = rw a.requires.1 (before_bound a.args.k.constants a.args.k.sound a.args.y)
 
 -- at place 0 no look back finds a leap month
 none_at_0 : (k : Constants) → Sound k → (y near : ℕ) → 0 < 12 * y + near →
@@ -29,82 +29,81 @@ none_at_0 k s y (suc p) h =
     omega (arith, one_at_most (leb (new_moon (means_of k) ((rule_of k).before y + suc p)) (term_day (means_of k) (12 * y + suc p - 1))))
 
 -- the next month's first day
-next : (a : goal.After-month_length) → (a.new_moon_day-first.result + a.month_length.result ≡ new_moon (means_of a.args.k) (suc ((rule_of a.args.k).before a.args.y + a.args.near)))
+next : (a : goal.After-month_length) → (a.new_moon_day-first.result + a.month_length.result ≡ new_moon (means_of a.args.k.constants) (suc ((rule_of a.args.k.constants).before a.args.y + a.args.near)))
 next a =
-    rw (a.month_length.ensures, a.new_moon_day-first.ensures, a.requires.2)
-    (next_day a.args.k a.requires.0 ((rule_of a.args.k).before a.args.y + a.args.near))
+    rw (a.month_length.ensures, a.new_moon_day-first.ensures, a.requires.1)
+    (next_day a.args.k.constants a.args.k.sound ((rule_of a.args.k.constants).before a.args.y + a.args.near))
 
 -- which is within what `term_from` asks of a day
 next_high : (a : goal.After-month_length) → a.new_moon_day-first.result + a.month_length.result ≤ 1073741824
 next_high a =
-    let m : ℕ = (rule_of a.args.k).before a.args.y + a.args.near in
-    omega (arith, next a, moon_high (means_of a.args.k) a.requires.0.moon (suc m), room a.before.before, a.requires.1, a.requires.2, a.requires.3)
+    let m : ℕ = (rule_of a.args.k.constants).before a.args.y + a.args.near in
+    omega (arith, next a, moon_high (means_of a.args.k.constants) a.args.k.sound.moon (suc m), room a.before.before, a.requires.0, a.requires.1, a.requires.2)
 
 -- the looks together take off at most one more than the place
 looks : (a : goal.After-term_from-had) → bool_byte a.term_from-come.result + bool_byte a.term_from-had.result ≤ a.args.near + 1
 looks a =
     let had : bool_byte a.term_from-had.result ≤ a.args.near =
-    rw (a.term_from-had.ensures, a.new_moon_day-first.ensures, a.requires.2)
-    (none_at_0 a.args.k a.requires.0 a.args.y a.args.near a.requires.4) in
+    rw (a.term_from-had.ensures, a.new_moon_day-first.ensures, a.requires.1)
+    (none_at_0 a.args.k.constants a.args.k.sound a.args.y a.args.near a.requires.3) in
     omega (arith, one_at_most a.term_from-come.result, had)
 
 -- of a year of thirteen, the place that was found
-found : (a : goal.After-term_from-had) → (let l = leap_place (rule_of a.args.k) a.args.y in Long (rule_of a.args.k) (laws_of a.args.k a.requires.0) a.args.y → a.args.near + 1 ≡ l + bool_byte a.term_from-come.result + bool_byte a.term_from-had.result)
+found : (a : goal.After-term_from-had) → (let l = leap_place (rule_of a.args.k.constants) a.args.y in Long (rule_of a.args.k.constants) (laws_of a.args.k.constants a.args.k.sound) a.args.y → a.args.near + 1 ≡ l + bool_byte a.term_from-come.result + bool_byte a.term_from-had.result)
 found a c =
-    let M = means_of a.args.k in
+    let M = means_of a.args.k.constants in
     let some = c.leap.from in
     rw (
       a.term_from-come.ensures,
       next a.before.before,
       a.term_from-had.ensures,
       a.new_moon_day-first.ensures,
-      a.requires.2,
-      leap_come_in M a.requires.0.moon a.requires.0.sun a.args.y a.args.near some,
-      leap_come_before M a.requires.0.moon a.requires.0.sun a.args.y a.args.near a.requires.4 some,
+      a.requires.1,
+      leap_come_in M a.args.k.sound.moon a.args.k.sound.sun a.args.y a.args.near some,
+      leap_come_before M a.args.k.sound.moon a.args.k.sound.sun a.args.y a.args.near a.requires.3 some,
     )
-    (place_is (leap_place (rule_of a.args.k) a.args.y) a.args.near some a.requires.5)
+    (place_is (leap_place (rule_of a.args.k.constants) a.args.y) a.args.near some a.requires.4)
 
 pub overflow_add-m : goal.overflow_add-m
 overflow_add-m c = omega (arith, room c)
 
 pub new_moon_day-first-requires : goal.new_moon_day-first-requires
-new_moon_day-first-requires c = (c.requires.0, omega (arith, c.requires.1, c.requires.3, room c))
+new_moon_day-first-requires c = (omega (arith, c.requires.0, c.requires.2, room c))
 
 pub month_length-requires : goal.month_length-requires
-month_length-requires c = (c.requires.0, omega (arith, c.requires.1, c.requires.3, room c.before))
+month_length-requires c = (omega (arith, c.requires.0, c.requires.2, room c.before))
 
 pub overflow_add-first : goal.overflow_add-first
 overflow_add-first c = omega (arith, next_high c)
 
 pub term_from-come-requires : goal.term_from-come-requires
-term_from-come-requires c = (c.requires.0, omega (arith, c.requires.1, c.requires.3), next_high c)
+term_from-come-requires c = (omega (arith, c.requires.0, c.requires.2), next_high c)
 
 pub term_from-had-requires : goal.term_from-had-requires
-term_from-had-requires c =
-    (c.requires.0, omega (arith, c.requires.1, c.requires.3), omega (arith, next_high c.before))
+term_from-had-requires c = (omega (arith, c.requires.0, c.requires.2), omega (arith, next_high c.before))
 
 pub overflow_sub-result-2 : goal.overflow_sub-result-2
 overflow_sub-result-2 c = omega (arith, looks c)
 
 pub overflow_sub-result-3 : goal.overflow_sub-result-3
 overflow_sub-result-3 c =
-    let R = rule_of c.args.k in
-    let L = laws_of c.args.k c.requires.0 in
+    let R = rule_of c.args.k.constants in
+    let L = laws_of c.args.k.constants c.args.k.sound in
     omega (arith, c.month_count.ensures, year_low R L c.args.y, year_ends R L c.args.y)
 
 pub overflow_mul-result : goal.overflow_mul-result
 overflow_mul-result c =
-    let R = rule_of c.args.k in
-    let L = laws_of c.args.k c.requires.0 in
+    let R = rule_of c.args.k.constants in
+    let L = laws_of c.args.k.constants c.args.k.sound in
     ⊎_elim
-    (λ (d : Common R L c.args.y). rw (c.month_count.ensures ∙ d.count) (omega (arith, c.requires.3)))
-    (λ (d : Long R L c.args.y). rw (c.month_count.ensures ∙ d.count) (omega (arith, c.requires.3)))
+    (λ (d : Common R L c.args.y). rw (c.month_count.ensures ∙ d.count) (omega (arith, c.requires.2)))
+    (λ (d : Long R L c.args.y). rw (c.month_count.ensures ∙ d.count) (omega (arith, c.requires.2)))
     (two_kinds R L c.args.y)
 
 pub returns : goal.returns
 returns c =
-    let R = rule_of c.args.k in
-    let L = laws_of c.args.k c.requires.0 in
+    let R = rule_of c.args.k.constants in
+    let L = laws_of c.args.k.constants c.args.k.sound in
     ⊎_elim
     (λ (d : Common R L c.args.y). rw (c.month_count.ensures ∙ d.count) (omega (arith, d.place)))
     (λ (d : Long R L c.args.y). rw (c.month_count.ensures ∙ d.count) (omega (arith, found c.before d)))

@@ -9,4 +9,4 @@ use Rattle.lunisolar.proofs.rule.months_before.Goals as goal
 pub returns : goal.returns
 unfolding by_days
 returns c =
-    c.month_of_day.ensures ∙ ap (month_of (new_moon (means_of c.args.k))) (solstice_day c.args.k c.requires.0 c.args.y)
+    c.month_of_day.ensures ∙ ap (month_of (new_moon (means_of c.args.k.constants))) (solstice_day c.args.k.constants c.args.k.sound c.args.y)

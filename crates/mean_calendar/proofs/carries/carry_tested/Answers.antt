@@ -7,4 +7,4 @@ use Rattle.mean_calendar.proofs.carries.carry_tested.Goals as goal
 
 pub land-requires : goal.land-requires
 land-requires c =
-    (λ g. in_round_lem c.args.k.lunations (named_month c.args.fields.now) _ (sym c.requires.1 ∙ g), omega (arith, lunations_bound c.args.k c.requires.0))
+    (λ g. in_round_lem c.args.k.constants.lunations (named_month c.args.fields.now) _ (sym c.requires ∙ g), omega (arith, lunations_bound c.args.k.constants c.args.k.sound))
