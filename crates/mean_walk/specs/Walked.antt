@@ -27,4 +27,3 @@ walk_answer_fields k f cs = pick (genuine_fields k f) (Ok (walked k (month_of k 
 
 abbrev pub zero_walk : MeanWalk
 zero_walk = record { month = zero_month; sum = pos 0; answered = 0 }
-

@@ -11,7 +11,7 @@ use mean_calendar::carries::MonthFields;
 use refusal::Refusal;
 
 // Where a walk ends, the sum of the answered counts, and how many were answered.
-#[derive(Clone, Copy)]
+#[derive(Clone, Copy, Default)]
 pub struct MeanWalk {
     pub month: MeanMonth,
     pub sum: i64,

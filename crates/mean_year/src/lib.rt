@@ -6,10 +6,10 @@ ghost use Rattle.mean_calendar.specs.Heads.{year_head};
 ghost use Rattle.mean_calendar.specs.Months.{month_fields};
 ghost use Rattle.mean_year.specs.Years.{places, month_at, mean_year};
 
-use refusal::Refusal;
 use lunisolar::Calendar;
 use mean_calendar::carries::MonthFields;
-use mean_calendar::MeanMonth;
+use mean_calendar::{MeanHead, MeanMonth};
+use refusal::Refusal;
 
 // How many places a year may have.
 pub const PLACES: usize = 13;
@@ -53,7 +53,12 @@ pub fn year_under(k: Calendar, year: u64, head: Result<MeanHead, Refusal>) -> Me
 }
 
 // The months of the year with that head, as numbers, in a lent list of thirteen: so they are made where they are wanted, and nothing is copied.
-pub fn write_months(k: Calendar, year: u64, head: Result<MeanHead, Refusal>, rows: &mut [MonthFields])
+pub fn write_months(
+    k: Calendar,
+    year: u64,
+    head: Result<MeanHead, Refusal>,
+    rows: &mut [MonthFields],
+)
     requires { (head ≡ year_head k.constants year) × (length rows.old ≡ places) }
     ensures { rows.new ≡ map month_fields (mean_year k.constants year).months }
 {

@@ -27,7 +27,7 @@ arrive-end-requires c =
     (from c.args.k.constants c.args.start.now c.args.genuine c.requires c.if-genuine.true, omega (arith, lunations_bound c.args.k.constants c.args.k.sound))
 
 pub month_of-month-requires : goal.month_of-month-requires
-month_of-month-requires c =     (rw c.arrive-end.ensures (final_below c.args.k.constants.lunations c.args.counts.now (named_month c.args.start.now) (from c.args.k.constants c.args.start.now c.args.genuine c.requires c.if-genuine.true)))
+month_of-month-requires c = (rw c.arrive-end.ensures (final_below c.args.k.constants.lunations c.args.counts.now (named_month c.args.start.now) (from c.args.k.constants c.args.start.now c.args.genuine c.requires c.if-genuine.true)))
 
 pub returns-then-genuine : goal.returns-then-genuine
 returns-then-genuine c =

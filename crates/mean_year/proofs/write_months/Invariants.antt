@@ -13,7 +13,7 @@ abbrev pub at : Constants → ℕ → ℕ → List ℕ
 at k n p = month_fields (month_at k n p)
 
 abbrev pub invariant-loop-i : goal.invariant-loop-i
-invariant-loop-i l = (l.i ≤ places) × (length l.initial.rows ≡ places) × (l.rows ≡ filled_to (at l.k l.year) l.initial.rows l.i)
+invariant-loop-i l = (l.i ≤ places) × (length l.initial.rows ≡ places) × (l.rows ≡ filled_to (at l.k.constants l.year) l.initial.rows l.i)
 
 abbrev pub decreases-loop-i : goal.decreases-loop-i
 decreases-loop-i l = places - l.i
