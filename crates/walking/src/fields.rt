@@ -14,11 +14,5 @@ pub fn same_fields(a: &[u64], b: &[u64]) -> bool
     requires { length a.now ≡ length b.now }
     ensures { result ≡ same_fields (length a.now) a.now b.now }
 {
-    let mut same = true;
-    let mut i = 0;
-    while i < a.len() {
-        same = (a[i] == b[i]) & same;
-        i += 1;
-    }
-    same
+    a == b
 }

@@ -83,11 +83,8 @@ pub fn walk_months(size: u64, from: u64, counts: &[i64]) -> Steps
 {
     let mut month = from;
     let mut answered: usize = 0;
-    let mut i = 0;
-    while i < counts.len() {
-        let count = counts[i];
-        i += 1;
-        match reach(size, month, count) {
+    for count in counts {
+        match reach(size, month, *count) {
             Some(k) => {
                 month = k;
                 answered += 1;
