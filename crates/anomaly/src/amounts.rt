@@ -19,10 +19,8 @@ fn sum_of(rates: [i64; 28], k: usize) -> i64
     ensures { result ≡ sum_of rates k }
 {
     let mut sum: i64 = 0;
-    let mut i: usize = 0;
-    while i < k {
-        sum += rates[i];
-        i += 1;
+    for rate in &rates[..k] {
+        sum += *rate;
     }
     sum
 }
