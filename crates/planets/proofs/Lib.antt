@@ -2,7 +2,6 @@ pub mod Cases
 pub mod Decoded
 pub mod EveryYear
 pub mod Five
-pub mod Mapped
 pub mod Printed
 pub mod Refusals
 pub mod Room

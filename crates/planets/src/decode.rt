@@ -3,6 +3,7 @@ ghost use Rattle.std.specs.Prelude.{◌≡◌, map, ◌<◌, get_or};
 ghost use Rattle.planets.specs.Rows.{kind_of, apparition_of, signed_degrees, stage_of, Small};
 
 use crate::{Apparition, Stage, StageKind};
+use std::array;
 use units::remainder::DegreeRemainder;
 
 fn kind_of(number: u64) -> StageKind
@@ -62,22 +63,5 @@ pub fn stages_of(rows: [[u64; 10]; 14]) -> [Stage; 14]
     requires { Small rows }
     ensures { result ≡ map stage_of rows }
 {
-    let zero = Stage {
-        days: 0,
-        remainder: DegreeRemainder { parts: 0 },
-        degrees: 0,
-        excess: DegreeRemainder { parts: 0 },
-        whole: 0,
-        numerator: 0,
-        denominator: 0,
-        kind: StageKind::Unused,
-        apparition: Apparition::Neither,
-    };
-    let mut stages = [zero; 14];
-    let mut i = 0;
-    while i < 14 {
-        stages[i] = stage_of(rows[i]);
-        i += 1;
-    }
-    stages
+    array::from_fn(|i| stage_of(rows[i]))
 }

@@ -1,3 +1,4 @@
+pub mod Arrays
 pub mod Searches
 pub mod Lists
 pub mod Counts
