@@ -15,7 +15,7 @@ use units::remainder::{DayCarry, DayRemainder};
 pub mod amounts;
 
 // The day of the anomaly (入曆日), 1 to 28, and its rest over N with the half of a part beside it.
-#[derive(Clone, Copy)]
+#[derive(Clone, Copy, Default)]
 pub struct Anomaly {
     pub day: u64,
     pub rest: DayRemainder,
@@ -23,7 +23,7 @@ pub struct Anomaly {
 }
 
 // A phase's anomaly and correction (盈縮定積分), and its day and remainder after it.
-#[derive(Clone, Copy)]
+#[derive(Clone, Copy, Default)]
 pub struct Corrected {
     pub anomaly: Anomaly,
     pub correction: i64,
@@ -33,7 +33,7 @@ pub struct Corrected {
 }
 
 // A month's new moon and full moon, corrected.
-#[derive(Clone, Copy)]
+#[derive(Clone, Copy, Default)]
 pub struct Corrections {
     pub new: Corrected,
     pub full: Corrected,

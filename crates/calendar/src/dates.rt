@@ -9,7 +9,7 @@ pub fn day_of_date(year: u64, place: u64, day: u64) -> Result<Day, Refusal>
     ensures { result ≡ day_of_date year place day }
 {
     let month = Xinghe::lunation_at(year, place);
-    lunisolar::dates::day_for(Xinghe::constants(), month, day)
+    lunisolar::dates::day_for(Xinghe::calendar(), month, day)
 }
 
 pub fn date_of_day(number: u64) -> Result<Date, Refusal>
@@ -21,6 +21,6 @@ pub fn date_of_day(number: u64) -> Result<Date, Refusal>
     let m = Xinghe::month_of_day(number);
     let y = Xinghe::year_of(m);
     let before = units::chapter::months_before(y);
-    let date = lunisolar::dates::date_in(Xinghe::constants(), y, before, m, number);
+    let date = lunisolar::dates::date_in(Xinghe::calendar(), y, before, m, number);
     Ok(date)
 }

@@ -15,7 +15,7 @@ pub mod heads;
 pub mod rows;
 
 // A year: the months before it, the leap remainder (閏餘) of its chapter, its month count, its leap place (0 for none) and its winter solstice.
-#[derive(Clone, Copy)]
+#[derive(Clone, Copy, Default)]
 pub struct YearHead {
     pub before: u64,
     pub remainder: u64,
@@ -27,7 +27,7 @@ pub struct YearHead {
 // A month: its number in the round (積月), its year and place, its month number (11 at place 0), whether it is the leap month (閏月), its
 // first day with the small remainder (小餘) of its new moon, and its length; and of that new moon the degrees since the last node (交) and
 // their remainder (the residue), the side of the road (表裏), and the day of the anomaly (入曆日) and its rest.
-#[derive(Clone, Copy)]
+#[derive(Clone, Copy, Default)]
 pub struct MonthRow {
     pub lunation: u64,
     pub year: u64,

@@ -65,7 +65,7 @@ fn row_named(name: MonthName, lunation: u64, elements: Elements) -> MonthRow
     };
     // by the same comparison as the addition to the next new moon, so that it is made once
     let length = moon::length_of(remainder);
-    let k = Xinghe::constants();
+    let k = Xinghe::calendar();
     let month = mean_calendar::months::month_by(k, name, lunation, share, length);
     let distance = elements.passage.distance();
     let residue = distance.remainder;
@@ -98,7 +98,7 @@ fn row_from(y: u64, before: u64, lunation: u64) -> MonthRow
     let moon = elements.moon;
     let first = moon.day;
     let next = first + moon::length_of(moon.remainder);
-    let name = lunisolar::naming::name_from(Xinghe::constants(), y, lunation - before, first, next);
+    let name = lunisolar::naming::name_from(Xinghe::calendar(), y, lunation - before, first, next);
     row_named(name, lunation, elements)
 }
 
@@ -130,7 +130,7 @@ pub fn row_with(year: u64, head: YearHead, place: u64, elements: Elements) -> Mo
     requires { (Ok head ≡ year_head year) × (place < head.months) × (elements ≡ elements_of (head.before + place)) }
     ensures { Ok result ≡ month_row year place }
 {
-    let name = lunisolar::naming::name_under(Xinghe::constants(), year - 1, head.leap, place);
+    let name = lunisolar::naming::name_under(Xinghe::calendar(), year - 1, head.leap, place);
     row_named(name, head.before + place, elements)
 }
 

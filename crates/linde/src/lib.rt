@@ -14,7 +14,7 @@ ghost use Rattle.mean_year.specs.Years.{mean_year};
 ghost use Rattle.linde.specs.Linde.{linde};
 
 use refusal::Refusal;
-use lunisolar::Constants;
+use lunisolar::{Calendar, Constants};
 use mean_calendar::carries::MonthFields;
 use mean_calendar::MeanMonth;
 use mean_year::{MeanYear, PLACES};
@@ -56,10 +56,18 @@ impl Linde {
         }
     }
 
+    pub fn calendar() -> Calendar
+        ensures { result.constants ≡ linde }
+    {
+        Calendar {
+            constants: Linde::constants(),
+        }
+    }
+
     pub fn year_head(year: u64) -> Result<MeanHead, Refusal>
         ensures { result ≡ year_head linde year }
     {
-        let k = Linde::constants();
+        let k = Linde::calendar();
         let first = lunisolar::lunation_at(k, year, 0);
         mean_calendar::heads::head_for(k, year, first)
     }
@@ -67,7 +75,7 @@ impl Linde {
     pub fn month_row(year: u64, place: u64) -> Result<MeanMonth, Refusal>
         ensures { result ≡ month_row linde year place }
     {
-        let k = Linde::constants();
+        let k = Linde::calendar();
         let month = lunisolar::lunation_at(k, year, place);
         mean_calendar::months::month_for(k, year, place, month)
     }
@@ -75,26 +83,26 @@ impl Linde {
     pub fn day_of_date(year: u64, place: u64, day: u64) -> Result<Day, Refusal>
         ensures { result ≡ day_of_date linde year place day }
     {
-        lunisolar::dates::day_of_date(Linde::constants(), year, place, day)
+        lunisolar::dates::day_of_date(Linde::calendar(), year, place, day)
     }
 
     pub fn date_of_day(number: u64) -> Result<Date, Refusal>
         ensures { result ≡ date_of_day linde number }
     {
-        lunisolar::dates::date_of_day(Linde::constants(), number)
+        lunisolar::dates::date_of_day(Linde::calendar(), number)
     }
 
     pub fn cut_point(year: u64, cut: u64, index: u64) -> Result<MeanPoint, Refusal>
         ensures { result ≡ cut_point linde year cut index }
     {
-        mean_calendar::cuts::cut_point(Linde::constants(), year, cut, index)
+        mean_calendar::cuts::cut_point(Linde::calendar(), year, cut, index)
     }
 
     // Whether a month handed in as numbers is the one of the calendar that it names.
     fn is_genuine(fields: &MonthFields) -> bool
         ensures { result ≡ genuine_fields linde fields.now }
     {
-        mean_calendar::carries::is_genuine(Linde::constants(), fields)
+        mean_calendar::carries::is_genuine(Linde::calendar(), fields)
     }
 
     // The month so many months on, or back, of a month handed in as numbers.
@@ -102,7 +110,7 @@ impl Linde {
         ensures { result ≡ carried_fields linde fields.now count }
     {
         let genuine = Linde::is_genuine(fields);
-        mean_calendar::carries::carry_tested(Linde::constants(), genuine, fields, count)
+        mean_calendar::carries::carry_tested(Linde::calendar(), genuine, fields, count)
     }
 
     // The same of a month.
@@ -129,7 +137,7 @@ impl Linde {
         ensures { result ≡ walk_answer_fields linde start.now counts.now }
     {
         let genuine = Linde::is_genuine(start);
-        mean_walk::walk_tested(Linde::constants(), genuine, start, counts)
+        mean_walk::walk_tested(Linde::calendar(), genuine, start, counts)
     }
 
     pub fn walk(start: MeanMonth, counts: &[i64]) -> Result<MeanWalk, Refusal>
@@ -143,7 +151,7 @@ impl Linde {
         ensures { result ≡ mean_year linde year }
     {
         let head = Linde::year_head(year);
-        mean_year::year_under(Linde::constants(), year, head)
+        mean_year::year_under(Linde::calendar(), year, head)
     }
 
     // The same with the months as numbers in a lent array.
@@ -151,7 +159,7 @@ impl Linde {
         ensures { (result ≡ year_head linde year) × (rows.new ≡ map month_fields (mean_year linde year).months) }
     {
         let head = Linde::year_head(year);
-        mean_year::write_months(Linde::constants(), year, head, rows);
+        mean_year::write_months(Linde::calendar(), year, head, rows);
         head
     }
 }

@@ -6,7 +6,7 @@ use units::Xinghe;
 use units::remainder::DayRemainder;
 
 // A phase: its day, its remainder over N, and the quarters of a part beside it.
-#[derive(Clone, Copy)]
+#[derive(Clone, Copy, Default)]
 pub struct Phase {
     pub day: u64,
     pub remainder: DayRemainder,
@@ -14,7 +14,7 @@ pub struct Phase {
 }
 
 // The new moon, the first quarter, the full moon and the last quarter.
-#[derive(Clone, Copy)]
+#[derive(Clone, Copy, Default)]
 pub struct Phases {
     pub new: Phase,
     pub first: Phase,

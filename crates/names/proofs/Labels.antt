@@ -1,5 +1,6 @@
 -- What follows of labels (02 §3): their numbers, whose list is taken, their bytes, and that the sixty names are the list.
 -- Assumes nothing.
+use Rattle.names.specs.declared.NameLocation.{NameLocation}
 use Rattle.std.specs.Prelude.{Result, Ok, Err}
 use Rattle.refusal.specs.Numbers.{answer_number}
 use mathlib.Core.Path.{◌≡◌, refl, ap, ◌∙◌}

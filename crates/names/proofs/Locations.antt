@@ -1,5 +1,6 @@
 -- Where a name is found (02 §3), case by case.
 -- Assumes nothing.
+use Rattle.names.specs.declared.NameLocation.{NameLocation}
 use Rattle.std.specs.Prelude.{Result, Ok, Err}
 use mathlib.Core.Path.{◌≡◌}
 use Prim.Native.Nat.{ℕ, suc, ◌+◌, ◌-◌, ◌*◌, ◌≤◌}

@@ -4,7 +4,7 @@
 ghost use Rattle.std.specs.Prelude.{◌≡◌};
 ghost use Rattle.names.specs.Names.{bytes_of, whose_number, location_for, label_number, label_of};
 
-use refusal::Refusal;
+use refusal::{Numbered, Refusal};
 
 pub mod ganzhi;
 

@@ -15,8 +15,9 @@ pub mod marks;
 pub mod passages;
 
 // Which side of the road the moon stands on (表裏).
-#[derive(Clone, Copy)]
+#[derive(Clone, Copy, Default)]
 pub enum Side {
+    #[default]
     AtNode,
     Outside,
     Inside,
@@ -36,7 +37,7 @@ impl Side {
 }
 
 // A distance in degrees, with its remainder over N and the half of a part beside it.
-#[derive(Clone, Copy)]
+#[derive(Clone, Copy, Default)]
 pub struct Distance {
     pub degrees: u64,
     pub remainder: DayRemainder,
@@ -44,7 +45,7 @@ pub struct Distance {
 }
 
 // Whether an eclipse is marked, its distance from the node and its size; zero where none is.
-#[derive(Clone, Copy)]
+#[derive(Clone, Copy, Default)]
 pub struct Eclipse {
     pub marked: bool,
     pub distance: Distance,
@@ -52,14 +53,14 @@ pub struct Eclipse {
 }
 
 // The distance since the last node (交), and the eclipse there.
-#[derive(Clone, Copy)]
+#[derive(Clone, Copy, Default)]
 pub struct Node {
     pub distance: Distance,
     pub eclipse: Eclipse,
 }
 
 // A month's new moon, with its side, and its full moon.
-#[derive(Clone, Copy)]
+#[derive(Clone, Copy, Default)]
 pub struct Nodes {
     pub new: Node,
     pub side: Side,

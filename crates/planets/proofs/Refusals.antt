@@ -1,5 +1,6 @@
 -- The numbers returned by the planets' jobs, as equations on all inputs, the year's before the planet's; and zero values with each refusal.
 -- Assumes nothing.
+use Rattle.planets.specs.declared.TwoConjunctions.{TwoConjunctions}
 use Rattle.std.specs.Prelude.{Result, Ok, Err}
 use Rattle.refusal.specs.Numbers.{answer_number}
 use Rattle.std.specs.Result.{result_unwrap_or}

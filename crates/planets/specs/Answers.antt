@@ -60,4 +60,3 @@ abbrev pub stage_fields : Stage → List ℕ
 stage_fields s =
     s.days ∷ s.remainder.parts ∷ cond (is_back s.degrees) 1 0 ∷ nat_abs s.degrees ∷ s.excess.parts
     ∷ s.whole ∷ s.numerator ∷ s.denominator ∷ stage_kind_number s.kind ∷ apparition_number s.apparition ∷ []
-

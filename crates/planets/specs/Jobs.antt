@@ -1,5 +1,6 @@
 -- The planets' jobs (02 §1), on all inputs.
 -- Assumes nothing.
+use Rattle.planets.specs.declared.TwoConjunctions.{TwoConjunctions}
 use Rattle.std.specs.Prelude.{Result, Ok, Err, ℕ, length}
 use Rattle.reckoning.specs.Search.{pick}
 use Rattle.refusal.specs.declared.Refusal.{Refusal}

@@ -14,15 +14,16 @@ pub mod synodic;
 pub mod table;
 
 // Morning (晨) or evening (夕), of a conjunction or a stage; neither, where the treatise names none.
-#[derive(Clone, Copy)]
+#[derive(Clone, Copy, Default)]
 pub enum Apparition {
+    #[default]
     Neither,
     Morning,
     Evening,
 }
 
 // A conjunction (合): the time from the year's solstice and from the origin, each in days and a remainder over D.
-#[derive(Clone, Copy)]
+#[derive(Clone, Copy, Default)]
 pub struct Conjunction {
     pub time: DegreeCarry,
     pub since: DegreeCarry,
@@ -30,7 +31,7 @@ pub struct Conjunction {
 }
 
 // The next conjunction after a year's solstice, and the one after it.
-#[derive(Clone, Copy)]
+#[derive(Clone, Copy, Default)]
 pub struct TwoConjunctions {
     pub first: Conjunction,
     pub second: Conjunction,

@@ -9,7 +9,7 @@ use units::Xinghe;
 use units::remainder::DegreeRemainder;
 
 // The winter solstice: its day and remainder over D.
-#[derive(Clone, Copy)]
+#[derive(Clone, Copy, Default)]
 pub struct Solstice {
     pub day: u64,
     pub remainder: DegreeRemainder,
@@ -28,7 +28,7 @@ pub fn winter_solstice(y: u64) -> Solstice
 }
 
 // A point of a cut of the year: its day, its remainder over D, and the rest of a part over the cut.
-#[derive(Clone, Copy)]
+#[derive(Clone, Copy, Default)]
 pub struct Point {
     pub day: u64,
     pub remainder: DegreeRemainder,

@@ -27,7 +27,7 @@ pub fn months_before(y: u64) -> u64
     if y * Xinghe::CHAPTER_MONTHS - count * Xinghe::CHAPTER < SAME_DAY_FROM {
         return count;
     }
-    lunisolar::rule::months_from(Xinghe::constants(), y, count)
+    lunisolar::rule::months_from(Xinghe::calendar(), y, count)
 }
 
 // The months before year y as the chapter gives them: those of the whole chapters before it, and the table's entry for its year of the
@@ -54,5 +54,5 @@ pub fn year_months(y: u64, before: u64) -> YearMonths
     requires { (y < 1048576) × (before ≡ rule.before y) }
     ensures { result ≡ year_months xinghe y }
 {
-    lunisolar::rule::months_near(Xinghe::constants(), y, before, near_leap(y))
+    lunisolar::rule::months_near(Xinghe::calendar(), y, before, near_leap(y))
 }

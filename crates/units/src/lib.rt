@@ -9,8 +9,8 @@ ghost use Rattle.lunisolar.specs.Calendars.{year_at, lunation_at};
 ghost use Rattle.units.specs.Xinghe.{xinghe, means, rule};
 ghost use Rattle.units.specs.Chapter.{leap_remainder};
 
+use lunisolar::{Calendar, Constants};
 use refusal::Refusal;
-use lunisolar::Constants;
 
 pub mod chapter;
 mod entries;
@@ -71,24 +71,29 @@ impl Xinghe {
         }
     }
 
+    pub fn calendar() -> Calendar
+        ensures { result.constants ≡ xinghe }
+    {
+        Calendar {
+            constants: Xinghe::constants(),
+        }
+    }
+
     // The years past before a year as it is written.
     pub fn year_at(year: u64) -> Result<u64, Refusal>
         ensures { result ≡ year_at xinghe year }
     {
-        lunisolar::year_at(Xinghe::constants(), year)
+        lunisolar::year_at(Xinghe::calendar(), year)
     }
 
     // The month of the round at a place of a year.
+    #[tactic(auto, unfolding(lunisolar::specs::Calendars::lunation_for))]
     pub fn lunation_at(year: u64, place: u64) -> Result<u64, Refusal>
         ensures { result ≡ lunation_at xinghe year place }
     {
-        match Xinghe::year_at(year) {
-            Ok(y) => {
-                let before = chapter::months_before(y);
-                lunisolar::lunation_in(Xinghe::constants(), y, before, place)
-            }
-            Err(e) => Err(e),
-        }
+        let y = Xinghe::year_at(year)?;
+        let before = chapter::months_before(y);
+        lunisolar::lunation_in(Xinghe::calendar(), y, before, place)
     }
 
     // The leap remainder of a year, counted from 0.
@@ -104,13 +109,13 @@ impl Xinghe {
         requires { lunation < 16777216 }
         ensures { result ≡ year_of rule lunation }
     {
-        lunisolar::rule::year_of(Xinghe::constants(), lunation)
+        lunisolar::rule::year_of(Xinghe::calendar(), lunation)
     }
 
     pub fn month_of_day(day: u64) -> u64
         requires { day ≤ 1073741824 }
         ensures { result ≡ month_of (new_moon means) day }
     {
-        lunisolar::means::month_of_day(Xinghe::constants(), day)
+        lunisolar::means::month_of_day(Xinghe::calendar(), day)
     }
 }

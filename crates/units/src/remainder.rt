@@ -5,13 +5,13 @@ ghost use Rattle.units.specs.Units.{day_carry, degree_carry};
 use crate::Xinghe;
 
 // A remainder over the day divisor, 208,530 (小餘 over 日法).
-#[derive(Clone, Copy)]
+#[derive(Clone, Copy, Default)]
 pub struct DayRemainder {
     pub parts: u64,
 }
 
 // A remainder over the degree divisor, 16,860 (小餘 over 蔀法).
-#[derive(Clone, Copy)]
+#[derive(Clone, Copy, Default)]
 pub struct DegreeRemainder {
     pub parts: u64,
 }
@@ -24,7 +24,7 @@ pub struct DayCarry {
 }
 
 // Whole days, and what is left over D.
-#[derive(Clone, Copy)]
+#[derive(Clone, Copy, Default)]
 pub struct DegreeCarry {
     pub whole: u64,
     pub remainder: DegreeRemainder,

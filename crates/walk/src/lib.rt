@@ -10,7 +10,7 @@ use refusal::Refusal;
 use units::Xinghe;
 
 // Where a walk ends, the sum of the answered counts, and how many were answered.
-#[derive(Clone, Copy)]
+#[derive(Clone, Copy, Default)]
 pub struct Walked {
     pub row: MonthRow,
     pub sum: i64,

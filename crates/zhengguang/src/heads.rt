@@ -33,7 +33,7 @@ pub fn head_by(year: u64, mean: Result<MeanHead, Refusal>) -> Result<ZhengguangH
 pub fn mean_head(year: u64) -> Result<MeanHead, Refusal>
     ensures { result ≡ heads.year_head zhengguang year }
 {
-    let k = Zhengguang::constants();
+    let k = Zhengguang::calendar();
     let first = lunisolar::lunation_at(k, year, 0);
     mean_calendar::heads::head_for(k, year, first)
 }

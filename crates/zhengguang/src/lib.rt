@@ -8,7 +8,7 @@ ghost use Rattle.lunisolar.specs.Dates.{day_of_date, date_of_day};
 ghost use Rattle.mean_calendar.specs.Points.{cut_point};
 ghost use Rattle.zhengguang.specs.Zhengguang.{zhengguang};
 
-use lunisolar::Constants;
+use lunisolar::{Calendar, Constants};
 use mean_calendar::parts::DayParts;
 use mean_calendar::{MeanHead, MeanMonth};
 use refusal::Refusal;
@@ -22,14 +22,14 @@ pub mod walks;
 pub mod years;
 
 // A year: any calendar's head, and the leap remainder (閏餘) of its chapter.
-#[derive(Clone, Copy)]
+#[derive(Clone, Copy, Default)]
 pub struct ZhengguangHead {
     pub mean: MeanHead,
     pub remainder: u64,
 }
 
 // A month: any calendar's, and the degrees since the last node (交) at its new moon with their remainder (the residue).
-#[derive(Clone, Copy)]
+#[derive(Clone, Copy, Default)]
 pub struct ZhengguangRow {
     pub mean: MeanMonth,
     pub degrees: u64,
@@ -37,7 +37,7 @@ pub struct ZhengguangRow {
 }
 
 // A distance since the last node in degrees, with its remainder over N and the half of a part beside it.
-#[derive(Clone, Copy)]
+#[derive(Clone, Copy, Default)]
 pub struct NodeDistance {
     pub degrees: u64,
     pub remainder: DayParts,
@@ -45,7 +45,7 @@ pub struct NodeDistance {
 }
 
 // The distances at a month's new moon and at its full moon.
-#[derive(Clone, Copy)]
+#[derive(Clone, Copy, Default)]
 pub struct MonthNodes {
     pub new: NodeDistance,
     pub full: NodeDistance,
@@ -94,21 +94,29 @@ impl Zhengguang {
         }
     }
 
+    pub fn calendar() -> Calendar
+        ensures { result.constants ≡ zhengguang }
+    {
+        Calendar {
+            constants: Zhengguang::constants(),
+        }
+    }
+
     pub fn day_of_date(year: u64, place: u64, day: u64) -> Result<Day, Refusal>
         ensures { result ≡ day_of_date zhengguang year place day }
     {
-        lunisolar::dates::day_of_date(Zhengguang::constants(), year, place, day)
+        lunisolar::dates::day_of_date(Zhengguang::calendar(), year, place, day)
     }
 
     pub fn date_of_day(number: u64) -> Result<Date, Refusal>
         ensures { result ≡ date_of_day zhengguang number }
     {
-        lunisolar::dates::date_of_day(Zhengguang::constants(), number)
+        lunisolar::dates::date_of_day(Zhengguang::calendar(), number)
     }
 
     pub fn cut_point(year: u64, cut: u64, index: u64) -> Result<MeanPoint, Refusal>
         ensures { result ≡ cut_point zhengguang year cut index }
     {
-        mean_calendar::cuts::cut_point(Zhengguang::constants(), year, cut, index)
+        mean_calendar::cuts::cut_point(Zhengguang::calendar(), year, cut, index)
     }
 }

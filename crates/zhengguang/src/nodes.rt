@@ -14,7 +14,7 @@ pub fn new_moon_distance(lunation: u64) -> DayShare
     ensures { result ≡ over_day zhengguang (since_node lunation) }
 {
     over_day(
-        Zhengguang::constants(),
+        Zhengguang::calendar(),
         lunation * Zhengguang::P % Zhengguang::M,
     )
 }
@@ -23,7 +23,7 @@ pub fn new_moon_distance(lunation: u64) -> DayShare
 fn distance_of(halves: u64) -> NodeDistance
     ensures { result ≡ distance_of halves }
 {
-    let share = over_day(Zhengguang::constants(), halves / 2);
+    let share = over_day(Zhengguang::calendar(), halves / 2);
     let remainder = share.rest;
     NodeDistance {
         degrees: share.whole,
@@ -44,7 +44,7 @@ fn nodes_of(lunation: u64) -> MonthNodes
 pub fn nodes(year: u64, place: u64) -> Result<MonthNodes, Refusal>
     ensures { result ≡ nodes_at year place }
 {
-    match lunisolar::lunation_at(Zhengguang::constants(), year, place) {
+    match lunisolar::lunation_at(Zhengguang::calendar(), year, place) {
         Ok(m) => Ok(nodes_of(m)),
         Err(e) => Err(e),
     }

@@ -55,13 +55,13 @@ pub fn row_of(lunation: u64) -> ZhengguangRow
     requires { lunation < round_months }
     ensures { result ≡ row_of lunation }
 {
-    with_node(mean_calendar::months::month_of(Zhengguang::constants(), lunation))
+    with_node(mean_calendar::months::month_of(Zhengguang::calendar(), lunation))
 }
 
 pub fn month_row(year: u64, place: u64) -> Result<ZhengguangRow, Refusal>
     ensures { result ≡ month_row year place }
 {
-    let k = Zhengguang::constants();
+    let k = Zhengguang::calendar();
     let month = lunisolar::lunation_at(k, year, place);
     match mean_calendar::months::month_for(k, year, place, month) {
         Ok(mean) => Ok(with_node(mean)),

@@ -8,7 +8,7 @@ use crate::{Zhengguang, ZhengguangRow};
 use refusal::Refusal;
 
 // Where a walk ends, the sum of the answered counts, and how many were answered.
-#[derive(Clone, Copy)]
+#[derive(Clone, Copy, Default)]
 pub struct ZhengguangWalk {
     pub row: ZhengguangRow,
     pub sum: i64,

@@ -24,7 +24,7 @@ fn row_at(year: u64, mean: Result<MeanHead, Refusal>, place: u64) -> ZhengguangR
     requires { mean ≡ heads.year_head zhengguang year }
     ensures { result ≡ row_at year place }
 {
-    with_node(mean_year::month_at(Zhengguang::constants(), year, mean, place))
+    with_node(mean_year::month_at(Zhengguang::calendar(), year, mean, place))
 }
 
 pub fn year_by_value(year: u64) -> ZhengguangYear

@@ -1,3 +1,4 @@
+use Rattle.names.specs.declared.NameLocation.{NameLocation}
 use Rattle.std.specs.Prelude.{Result, Ok}
 use Rattle.refusal.specs.declared.Refusal.{Refusal}
 use mathlib.Core.Path.{◌≡◌, sym, subst, ◌∙◌}

@@ -29,4 +29,4 @@ returns-then-y-count-lt-SAME_DAY_FROM c =
 
 pub months_from-requires : goal.months_from-requires
 months_from-requires c =
-    rw (c.constants.ensures, c.chapter_months-count.ensures) (sound, c.requires, (by_chapter_near c.args.y).0, (by_chapter_near c.args.y).1)
+    rw (c.calendar.ensures, c.chapter_months-count.ensures) (c.requires, (by_chapter_near c.args.y).0, (by_chapter_near c.args.y).1)
