@@ -11,7 +11,6 @@ use lib.Dec.{eqb, eqb→eq}
 use lib.ListN.{get_or}
 use Rattle.reckoning.specs.Search.{pick}
 use Rattle.reckoning.proofs.Searches.{all_at}
-
 use Rattle.walking.specs.Fields.{bit_of, same_fields}
 use Rattle.walking.proofs.Walks.{Lawful}
 use Rattle.walking.proofs.Bits.{bit_eq}

@@ -1,5 +1,7 @@
 -- The numbers returned (01, "Numbers returned"), as equations on all inputs, the lowest that applies first; and zero values with each refusal.
 -- Assumes nothing.
+use Rattle.calendar.specs.declared.MonthRow.{MonthRow}
+use Rattle.calendar.specs.declared.YearHead.{YearHead}
 use Rattle.std.specs.Prelude.{Result, Ok, Err}
 use Rattle.refusal.specs.Numbers.{answer_number}
 use Rattle.std.specs.Result.{result_unwrap_or}

@@ -25,4 +25,3 @@ zero_row =
       anomaly = 0;
       rest = record { parts = 0 };
     }
-

@@ -1,5 +1,7 @@
 -- Dates and day numbers of the Xinghe: those of any calendar, at its constants.
 -- Assumes nothing.
+use Rattle.lunisolar.specs.declared.dates.Date.{Date}
+use Rattle.lunisolar.specs.declared.dates.Day.{Day}
 use Rattle.std.specs.Prelude.{Result, ℕ}
 use Rattle.refusal.specs.declared.Refusal.{Refusal}
 use Rattle.lunisolar.specs.Dates as dates

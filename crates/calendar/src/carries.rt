@@ -2,9 +2,9 @@
 ghost use Rattle.std.specs.Prelude.{◌≡◌, pos, negsuc};
 ghost use Rattle.calendar.specs.Carries.{carried, genuine_fields, carried_fields};
 
-use refusal::Refusal;
-use crate::rows::RowFields;
 use crate::MonthRow;
+use crate::rows::RowFields;
+use refusal::Refusal;
 use units::Xinghe;
 use walking::fields::same_fields;
 
@@ -25,10 +25,8 @@ pub fn carry_fields(fields: &RowFields, count: i64) -> Result<MonthRow, Refusal>
     ensures { result ≡ carried_fields fields.now count }
 {
     let genuine = is_genuine(fields);
-    match walking::land(Xinghe::MONTHS, genuine, fields[0], count) {
-        Ok(m) => Ok(crate::rows::row_of(m)),
-        Err(e) => Err(e),
-    }
+    let m = walking::land(Xinghe::MONTHS, genuine, fields[0], count)?;
+    Ok(crate::rows::row_of(m))
 }
 
 impl MonthRow {

@@ -2,6 +2,7 @@
 ghost use Rattle.std.specs.Prelude.{◌≡◌};
 ghost use Rattle.calendar.specs.Dates.{day_of_date, date_of_day};
 
+use lunisolar::dates::{Date, Day};
 use refusal::Refusal;
 use units::Xinghe;
 

@@ -2,8 +2,8 @@
 ghost use Rattle.std.specs.Prelude.{◌≡◌, ◌<◌};
 ghost use Rattle.calendar.specs.Heads.{head_of, year_head};
 
-use refusal::Refusal;
 use crate::YearHead;
+use refusal::Refusal;
 use units::Xinghe;
 
 fn head_of(y: u64) -> YearHead
@@ -23,11 +23,10 @@ fn head_of(y: u64) -> YearHead
     }
 }
 
+#[tactic(auto, unfolding(crate::specs::Heads::head_for))]
 pub fn year_head(year: u64) -> Result<YearHead, Refusal>
     ensures { result ≡ year_head year }
 {
-    match Xinghe::year_at(year) {
-        Ok(y) => Ok(head_of(y)),
-        Err(e) => Err(e),
-    }
+    let y = Xinghe::year_at(year)?;
+    Ok(head_of(y))
 }

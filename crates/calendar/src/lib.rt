@@ -2,12 +2,14 @@
 // A year is written from 1; a place is a month's index in its year, from 0; a day number is counted from the origin, from 0.
 #![tactic(auto)]
 
+ghost use Rattle.std.specs.Prelude.{◌≡◌};
+ghost use Rattle.calendar.specs.Answers.{zero_row};
+
 use node::Side;
 use refusal::Refusal;
 use sun::Solstice;
 use units::remainder::DayRemainder;
 
-pub mod answers;
 pub mod carries;
 pub mod dates;
 pub mod elements;
@@ -27,7 +29,7 @@ pub struct YearHead {
 // A month: its number in the round (積月), its year and place, its month number (11 at place 0), whether it is the leap month (閏月), its
 // first day with the small remainder (小餘) of its new moon, and its length; and of that new moon the degrees since the last node (交) and
 // their remainder (the residue), the side of the road (表裏), and the day of the anomaly (入曆日) and its rest.
-#[derive(Clone, Copy, Default)]
+#[derive(Clone, Copy)]
 pub struct MonthRow {
     pub lunation: u64,
     pub year: u64,
@@ -44,3 +46,25 @@ pub struct MonthRow {
     pub rest: DayRemainder,
 }
 
+// What a refused row is: all zeros, at the node. By hand, since the edit calendar/refused_with_values changes it.
+impl Default for MonthRow {
+    ghost is_default = { λ row. row ≡ zero_row };
+
+    fn default() -> MonthRow {
+        MonthRow {
+            lunation: 0,
+            year: 0,
+            place: 0,
+            number: 0,
+            leap: false,
+            day: 0,
+            remainder: DayRemainder { parts: 0 },
+            length: 0,
+            degrees: 0,
+            residue: DayRemainder { parts: 0 },
+            side: Side::AtNode,
+            anomaly: 0,
+            rest: DayRemainder { parts: 0 },
+        }
+    }
+}

@@ -7,12 +7,11 @@ ghost use Rattle.calendar.specs.Heads.{year_head};
 ghost use Rattle.calendar.specs.Elements.{elements_of};
 ghost use Rattle.calendar.specs.Rows.{row_fields, row_of, month_row};
 
-use refusal::Refusal;
-use refusal::Numbered;
 use crate::elements::{Elements, elements_of};
 use crate::{MonthRow, YearHead};
 use lunisolar::naming::MonthName;
 use mean_calendar::parts::{DayParts, DayShare};
+use refusal::{Numbered, Refusal};
 use units::Xinghe;
 use walking::fields::bit;
 
@@ -65,7 +64,7 @@ fn row_named(name: MonthName, lunation: u64, elements: Elements) -> MonthRow
     };
     // by the same comparison as the addition to the next new moon, so that it is made once
     let length = moon::length_of(remainder);
-    let k = Xinghe::calendar();
+    let k = Xinghe::constants();
     let month = mean_calendar::months::month_by(k, name, lunation, share, length);
     let distance = elements.passage.distance();
     let residue = distance.remainder;
@@ -112,16 +111,13 @@ pub fn row_of(lunation: u64) -> MonthRow
     row_from(y, before, lunation)
 }
 
+#[tactic(auto, unfolding(crate::specs::Rows::row_for))]
 pub fn month_row(year: u64, place: u64) -> Result<MonthRow, Refusal>
     ensures { result ≡ month_row year place }
 {
-    match Xinghe::lunation_at(year, place) {
-        Ok(m) => {
-            // the month less its place is the months before its year
-            Ok(row_from(year - 1, m - place, m))
-        }
-        Err(e) => Err(e),
-    }
+    let m = Xinghe::lunation_at(year, place)?;
+    // the month less its place is the months before its year
+    Ok(row_from(year - 1, m - place, m))
 }
 
 // The row at a place of a year whose head and whose month's new moon are at hand: one head serves all rows of its year, and the new moon's elements

@@ -12,33 +12,28 @@ use refusal::Refusal;
 use sun::Point;
 use units::Xinghe;
 
-pub mod answers;
-
+#[tactic(auto, unfolding(crate::specs::Jobs::phases_for))]
 pub fn phases(year: u64, place: u64) -> Result<Phases, Refusal>
     ensures { result ≡ phases_at year place }
 {
-    match Xinghe::lunation_at(year, place) {
-        Ok(m) => Ok(moon::phases::phases_of(m)),
-        Err(e) => Err(e),
-    }
+    let m = Xinghe::lunation_at(year, place)?;
+    Ok(moon::phases::phases_of(m))
 }
 
+#[tactic(auto, unfolding(crate::specs::Jobs::nodes_for))]
 pub fn nodes(year: u64, place: u64) -> Result<Nodes, Refusal>
     ensures { result ≡ nodes_at year place }
 {
-    match Xinghe::lunation_at(year, place) {
-        Ok(m) => Ok(node::nodes_of(m)),
-        Err(e) => Err(e),
-    }
+    let m = Xinghe::lunation_at(year, place)?;
+    Ok(node::nodes_of(m))
 }
 
+#[tactic(auto, unfolding(crate::specs::Jobs::corrections_for))]
 pub fn corrections(year: u64, place: u64) -> Result<Corrections, Refusal>
     ensures { result ≡ corrections_at year place }
 {
-    match Xinghe::lunation_at(year, place) {
-        Ok(m) => Ok(anomaly::corrections_of(m)),
-        Err(e) => Err(e),
-    }
+    let m = Xinghe::lunation_at(year, place)?;
+    Ok(anomaly::corrections_of(m))
 }
 
 // Each cut has a branch of its own, so that its divisions are by a constant.
@@ -61,11 +56,10 @@ fn point_in(y: u64, cut: u64, index: u64) -> Result<Point, Refusal>
     Err(Refusal::Cut)
 }
 
+#[tactic(auto, unfolding(crate::specs::Jobs::point_for))]
 pub fn cut_point(year: u64, cut: u64, index: u64) -> Result<Point, Refusal>
     ensures { result ≡ cut_point year cut index }
 {
-    match Xinghe::year_at(year) {
-        Ok(y) => point_in(y, cut, index),
-        Err(e) => Err(e),
-    }
+    let y = Xinghe::year_at(year)?;
+    point_in(y, cut, index)
 }

@@ -82,13 +82,12 @@ fn conjunctions_in(y: u64, planet: u64) -> Result<TwoConjunctions, Refusal>
     Ok(synodic::conjunctions_of(synodic::planet_of(planet), y))
 }
 
+#[tactic(auto, unfolding(crate::specs::Jobs::conjunctions_for))]
 pub fn conjunctions(year: u64, planet: u64) -> Result<TwoConjunctions, Refusal>
     ensures { result ≡ conjunctions_at year planet }
 {
-    match Xinghe::year_at(year) {
-        Ok(y) => conjunctions_in(y, planet),
-        Err(e) => Err(e),
-    }
+    let y = Xinghe::year_at(year)?;
+    conjunctions_in(y, planet)
 }
 
 // How many stages a planet has.

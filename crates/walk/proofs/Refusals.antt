@@ -1,5 +1,6 @@
 -- The number that a walk returns, as an equation on all inputs, and zero values with its refusal (01, "Numbers returned").
 -- Assumes nothing.
+use Rattle.walk.specs.declared.Walked.{Walked}
 use Rattle.std.specs.Prelude.{Result, Ok, Err}
 use Rattle.refusal.specs.Numbers.{answer_number}
 use Rattle.std.specs.Result.{result_unwrap_or}

@@ -1,5 +1,6 @@
 -- The lent list with the year's first k rows at its front: how long it is, and what one row more does to it.
 -- Assumes nothing.
+use Rattle.calendar.specs.declared.YearHead.{YearHead}
 use Rattle.std.specs.Prelude.{Result, Ok, Err}
 use Rattle.std.specs.Result.{result_unwrap_or}
 use mathlib.Core.Bool.{Bool, true, false}

@@ -1,5 +1,6 @@
 -- A whole year in a lent list of rows (01, "Numbers returned").
 -- Assumes nothing.
+use Rattle.calendar.specs.declared.YearHead.{YearHead}
 use Rattle.std.specs.Prelude.{Result, Ok, Err, List, [], ◌∷◌, ◌++◌, ℕ, zero, suc, leb, length, take, drop, replicate}
 use Rattle.std.specs.Result.{result_unwrap_or}
 use Rattle.reckoning.specs.Search.{pick}
@@ -41,4 +42,3 @@ filled_front have n rows = filled n (take have rows) ++ drop have rows
 -- a year by value: its head, and thirteen rows of zeros, filled
 abbrev pub year_rows : ℕ → YearRows
 year_rows n = record { head = year_head n; rows = filled n (replicate 13 zero_row) }
-

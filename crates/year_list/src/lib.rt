@@ -10,22 +10,19 @@ ghost use Rattle.calendar.specs.Answers.{zero_head};
 ghost use Rattle.year_list.specs.Filled.{answer_for, row_at, fill_answer, filled, filled_front, year_rows};
 
 use calendar::elements::Elements;
-use calendar::MonthRow;
+use calendar::{MonthRow, YearHead};
 use refusal::Refusal;
 
-// The answer for a year with that head and a list of that many rows.
+// How many rows are written, for a year with that head and a list of that many rows.
+#[tactic(auto, unfolding(crate::specs::Filled::answer_for))]
 pub fn answer_for(head: Result<YearHead, Refusal>, have: usize) -> Result<u64, Refusal>
     ensures { result ≡ answer_for head have }
 {
-    match head {
-        Ok(head) => {
-            if head.months <= have as u64 {
-                Ok(head.months)
-            } else {
-                Err(Refusal::List)
-            }
-        }
-        Err(e) => Err(e),
+    let head = head?;
+    if head.months <= have as u64 {
+        Ok(head.months)
+    } else {
+        Err(Refusal::List)
     }
 }
 
@@ -39,7 +36,7 @@ fn head_at(year: u64) -> Result<YearHead, Refusal>
 fn to_write(head: Result<YearHead, Refusal>, have: usize) -> usize
     ensures { result ≡ result_unwrap_or (answer_for head have) 0 }
 {
-    answer_for(head, have).count() as usize
+    answer_for(head, have).unwrap_or(0) as usize
 }
 
 // The row at a place of the year with that head.
@@ -60,7 +57,12 @@ pub fn first_elements(head: Result<YearHead, Refusal>) -> Elements
 
 // The row at a place of the year with that head, whose new moon's elements are at hand: so the elements go on from place to place by additions,
 // which is shorter than from the origin.
-pub fn row_with(year: u64, head: Result<YearHead, Refusal>, place: usize, elements: Elements) -> MonthRow
+pub fn row_with(
+    year: u64,
+    head: Result<YearHead, Refusal>,
+    place: usize,
+    elements: Elements,
+) -> MonthRow
     requires { (head ≡ year_head year) × (place < (result_unwrap_or head zero_head).months) × (elements ≡ elements_of ((result_unwrap_or head zero_head).before + place)) }
     ensures { result ≡ row_at year place }
 {
@@ -68,7 +70,11 @@ pub fn row_with(year: u64, head: Result<YearHead, Refusal>, place: usize, elemen
 }
 
 // The rows of the year with that head are stored by place at the front of the lent list.
-fn fill_under(rows: &mut [MonthRow], year: u64, head: Result<YearHead, Refusal>) -> Result<u64, Refusal>
+fn fill_under(
+    rows: &mut [MonthRow],
+    year: u64,
+    head: Result<YearHead, Refusal>,
+) -> Result<u64, Refusal>
     requires { head ≡ year_head year }
     ensures { (result ≡ fill_answer year (length rows.old)) × (rows.new ≡ filled year rows.old) }
 {
@@ -92,12 +98,17 @@ pub fn fill(rows: &mut [MonthRow], year: u64) -> Result<u64, Refusal>
 }
 
 // The rows after `fill_under` was lent the first `have` of them.
-fn front_under(rows: [MonthRow; 13], have: usize, year: u64, head: Result<YearHead, Refusal>) -> [MonthRow; 13]
+fn front_under(
+    rows: [MonthRow; 13],
+    have: usize,
+    year: u64,
+    head: Result<YearHead, Refusal>,
+) -> [MonthRow; 13]
     requires { (have ≤ 13) × (head ≡ year_head year) }
     ensures { result ≡ filled_front have year rows }
 {
     let mut list = rows;
-    fill_under(&mut list[..have], year, head);
+    let _ = fill_under(&mut list[..have], year, head);
     list
 }
 

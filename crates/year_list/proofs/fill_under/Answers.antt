@@ -1,4 +1,5 @@
 -- No more places are written than the list has, and each with the year's row.
+use Rattle.calendar.specs.declared.YearHead.{YearHead}
 use Rattle.std.specs.Prelude.{Result}
 use Rattle.refusal.specs.declared.Refusal.{Refusal}
 use Rattle.std.specs.Result.{result_unwrap_or}

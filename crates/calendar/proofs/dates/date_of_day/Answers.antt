@@ -24,9 +24,9 @@ months_before-before-requires c = omega (arith, c.year_of-y.ensures, year_in_rou
 
 pub date_in-date-requires : goal.date_in-date-requires
 date_in-date-requires c =
-    rw c.constants.ensures (sound, in_round_lem c.before.before.before, c.year_of-y.ensures, c.months_before-before.ensures, c.month_of_day-m.ensures)
+    rw c.calendar.ensures (in_round_lem c.before.before.before, c.year_of-y.ensures, c.months_before-before.ensures, c.month_of_day-m.ensures)
 
 pub returns : goal.returns
 unfolding date_of_day
 returns c =
-    rw (lt-ltb c.args.number round_days c.if-number-ge-DAYS.false, c.date_in-date.ensures, c.constants.ensures, c.month_of_day-m.ensures) refl
+    rw (lt-ltb c.args.number round_days c.if-number-ge-DAYS.false, c.date_in-date.ensures, c.calendar.ensures, c.month_of_day-m.ensures) refl

@@ -5,4 +5,4 @@ use Rattle.calendar.proofs.dates.day_of_date.Goals as goal
 
 pub day_for-requires : goal.day_for-requires
 day_for-requires c =
-    rw (c.constants.ensures, c.lunation_at-month.ensures) (sound, in_calendar xinghe sound c.args.year c.args.place)
+    rw (c.calendar.ensures, c.lunation_at-month.ensures) (in_calendar xinghe sound c.args.year c.args.place)

@@ -9,13 +9,9 @@ use Rattle.lunisolar.proofs.Rounds.{found, in_round_lem, stands_year}
 use Rattle.units.proofs.Sound.{sound}
 use Rattle.calendar.proofs.rows.month_row.Goals as goal
 
--- the month that the match binds
-is_lunation : (a : goal.In-Ok) → Ok a.in-Ok.m ≡ lunation_at xinghe a.args.year a.args.place
-is_lunation a = sym a.in-Ok.is ∙ a.lunation_at.ensures
-
 -- where it stands
-stood : (a : goal.In-Ok) → (let x = a.args in (1 ≤ x.year) × Stands xinghe (x.year - 1) x.place a.in-Ok.m)
-stood a = let x = a.args in found xinghe sound x.year x.place a.in-Ok.m (is_lunation a)
+stood : (a : goal.In_ok-m) → (let x = a.args in (1 ≤ x.year) × Stands xinghe (x.year - 1) x.place a.in_ok-m.m)
+stood a = let x = a.args in found xinghe sound x.year x.place a.in_ok-m.m a.in_ok-m.ensures
 
 pub overflow_sub-year : goal.overflow_sub-year
 overflow_sub-year c = (stood c).0
@@ -27,13 +23,5 @@ pub row_from-requires : goal.row_from-requires
 row_from-requires c =
     let s = (stood c).1 in
     let x = c.args in
-    let m = c.in-Ok.m in
+    let m = c.in_ok-m.m in
     (in_round_lem xinghe sound (x.year - 1) x.place m s, sym (stands_year xinghe sound (x.year - 1) x.place m s), omega (arith, s.month))
-
-pub returns-in-Ok : goal.returns-in-Ok
-unfolding row_for
-returns-in-Ok c = rw (← is_lunation c.before, c.row_from.ensures)
-
-pub returns-in-Err : goal.returns-in-Err
-unfolding row_for
-returns-in-Err c = rw (← c.lunation_at.ensures, c.in-Err.is)

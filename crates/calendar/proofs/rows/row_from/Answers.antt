@@ -41,8 +41,7 @@ pub name_from-name-requires : goal.name_from-name-requires
 unfolding place_of row_of month_of new_moon_of
 name_from-name-requires c =
     let m = c.args.lunation in
-    rw c.constants.ensures (
-      sound,
+    rw c.calendar.ensures (
       omega (arith, c.requires.1, year_in_round xinghe sound m c.requires.0),
       rw (c.requires.2, c.requires.1) (stands xinghe sound m c.requires.0).place,
       rw (month c.before, c.elements_of-elements.ensures) (row_day m),
@@ -51,4 +50,4 @@ name_from-name-requires c =
 
 pub row_named-requires : goal.row_named-requires
 row_named-requires c =
-    (c.requires.0, rw c.constants.ensures at c.name_from-name.ensures ∙ ap (name_of xinghe) (month c.before.before), c.elements_of-elements.ensures)
+    (c.requires.0, rw c.calendar.ensures at c.name_from-name.ensures ∙ ap (name_of xinghe) (month c.before.before), c.elements_of-elements.ensures)
