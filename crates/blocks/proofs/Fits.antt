@@ -1,5 +1,6 @@
 -- The numbers of a year and its months fit the bytes that a block has for them.
 -- Assumes nothing.
+use Rattle.calendar.specs.declared.YearHead.{YearHead}
 use Rattle.std.specs.Prelude.{Result, Ok, Err}
 use Rattle.refusal.specs.declared.Refusal.{Refusal}
 use Rattle.std.specs.Result.{result_unwrap_or}
@@ -74,7 +75,7 @@ row_fits n p h =
     let a = year_head n in
     let m : ℕ = (result_unwrap_or a zero_head).before + p in
     let inside : m < round_months = month_in_round n a p refl h in
-    let is : row_at n p ≡ row_of m = ap result_unwrap_or (sym (head_row n (result_unwrap_or a zero_head) (has_head a p h) p h)) zero_row in
+    let is : row_at n p ≡ row_of m = ap (λ r. result_unwrap_or r zero_row) (sym (head_row n (result_unwrap_or a zero_head) (has_head a p h) p h)) in
     let e = elements_bound m inside in
     rw is
     (record {

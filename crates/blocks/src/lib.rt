@@ -8,8 +8,8 @@ ghost use Rattle.calendar.specs.Heads.{year_head};
 ghost use Rattle.calendar.specs.Answers.{zero_head};
 ghost use Rattle.blocks.specs.Block.{head_bytes, record_bytes, records, totals_bytes, block_of, totals_in};
 
-use refusal::Refusal;
 use calendar::{MonthRow, YearHead};
+use refusal::Refusal;
 use totals::Totals;
 
 pub mod bytes;

@@ -1,5 +1,9 @@
 -- The numbers returned by the jobs of the sky, as equations on all inputs, the lowest that applies first; and zero values with each refusal.
 -- Assumes nothing.
+use Rattle.sun.specs.declared.Point.{Point}
+use Rattle.anomaly.specs.declared.Corrections.{Corrections}
+use Rattle.node.specs.declared.Nodes.{Nodes}
+use Rattle.moon.specs.declared.phases.Phases.{Phases}
 use Rattle.std.specs.Prelude.{Result, Ok, Err}
 use Rattle.refusal.specs.Numbers.{answer_number}
 use Rattle.std.specs.Result.{result_unwrap_or}

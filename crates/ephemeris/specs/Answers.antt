@@ -42,4 +42,3 @@ zero_corrections = record { new = zero_corrected; full = zero_corrected }
 
 abbrev pub zero_point : Point
 zero_point = record { day = 0; remainder = record { parts = 0 }; rest = 0 }
-

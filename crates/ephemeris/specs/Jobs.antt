@@ -1,5 +1,9 @@
 -- The jobs of the sky (01, "Phases and cuts of the year", "Nodes and eclipses", "The moon's correction"), on all inputs.
 -- Assumes nothing.
+use Rattle.sun.specs.declared.Point.{Point}
+use Rattle.anomaly.specs.declared.Corrections.{Corrections}
+use Rattle.node.specs.declared.Nodes.{Nodes}
+use Rattle.moon.specs.declared.phases.Phases.{Phases}
 use Rattle.std.specs.Prelude.{Result, Ok, Err, ◌&&◌, ℕ, ltb}
 use Rattle.reckoning.specs.Search.{pick}
 use Rattle.refusal.specs.declared.Refusal.{Refusal}

@@ -59,4 +59,3 @@ after_mend bytes = volume_after (mend_answer bytes) bytes
 
 abbrev pub after_notes : List ℕ → List ℕ → List ℕ
 after_notes bytes list = list_after (mend_answer bytes) bytes list
-

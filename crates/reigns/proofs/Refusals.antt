@@ -42,7 +42,7 @@ module _ (bytes : List ℕ) (from to : ℕ) where
       (right_check before && (right_check last && none_below (totals_in before) (totals_in last))) (totals_in last).news (totals_in last).fulls
       ((totals_in last).news - (totals_in before).news) ((totals_in last).fulls - (totals_in before).fulls)
     where
-      go : (w y s l b : Bool) (p q r t : ℕ) → answer_number (pick w (pick y (pick s (pick l (Ok (p, q)) (Err Refusal.Block)) (pick b (Ok (r, t)) (Err Refusal.Block))) (Err Refusal.Span)) (Err Refusal.Volume)) ≡ pick w (pick y (pick (pick s l b) 0 12) 2) 11
+      go : (w y s l b : Bool) (p q r t : ℕ) → answer_number {T = ℕ × ℕ} (pick w (pick y (pick s (pick l (Ok (p, q)) (Err Refusal.Block)) (pick b (Ok (r, t)) (Err Refusal.Block))) (Err Refusal.Span)) (Err Refusal.Volume)) ≡ pick w (pick y (pick (pick s l b) 0 12) 2) 11
       go true true true true b p q r t = refl
       go true true true false b p q r t = refl
       go true true false l true p q r t = refl

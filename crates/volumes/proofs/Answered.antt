@@ -1,7 +1,7 @@
 -- What the writer's and the reader's answers say.
 -- Assumes nothing.
 use Rattle.std.specs.Prelude.{Result, Ok, Err}
-use mathlib.Core.Path.{◌≡◌, refl, sym, ◌∙◌}
+use mathlib.Core.Path.{◌≡◌, refl, sym, ap, ◌∙◌}
 use mathlib.Core.Bool.{Bool, true, false, ◌&&◌}
 use mathlib.Core.List.{List}
 use Prim.Native.Nat.{ℕ, ◌+◌, ◌-◌, ◌*◌, ◌%◌, ◌≤◌, ◌<◌}
@@ -71,8 +71,10 @@ pub whole : (n : ℕ) → T (whole_blocks n) → (1 ≤ n) × (n % 512 ≡ 0)
 unfolding whole_blocks
 whole n t = (leb→le 1 n (both_left (leb 1 n) (eqb (n % 512) 0) t), eqb→eq (n % 512) 0 (both_right (leb 1 n) (eqb (n % 512) 0) t))
 
-read_tests : (p q : Bool) (a z b y : ℕ) → pick p (pick q (Ok (a, z)) (Err Refusal.Block)) (Err Refusal.Volume) ≡ Ok (b, y) → (T p) × (T q) × (a ≡ b) × (z ≡ y)
-read_tests true true a z b y e = (tt, tt, cc, cc)
+read_tests : (p q : Bool) (a z b y : ℕ) → pick {A = Result (ℕ × ℕ) Refusal} p (pick q (Ok (a, z)) (Err Refusal.Block)) (Err Refusal.Volume) ≡ Ok (b, y) → (T p) × (T q) × (a ≡ b) × (z ≡ y)
+read_tests true true a z b y e =
+    let both : ◌≡◌ {A = ℕ × ℕ} (a, z) (b, y) = cc in
+    (tt, tt, ap (λ (years : ℕ × ℕ). years.0) both, ap (λ (years : ℕ × ℕ). years.1) both)
 read_tests true false a z b y e = let w : ◌≡◌ {A = ℕ} 0 1 = cc in absurd (omega arith)
 read_tests false q a z b y e = let w : ◌≡◌ {A = ℕ} 0 1 = cc in absurd (omega arith)
 

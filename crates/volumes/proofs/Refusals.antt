@@ -36,7 +36,7 @@ pub read_numbers : (bytes : List ℕ) → answer_number (read_answer bytes) ≡ 
 unfolding read_answer
 read_numbers bytes = go (whole_blocks (length bytes)) (all (genuine_at bytes) (block_count bytes))
   where
-    go : (p q : Bool) → answer_number (pick p (pick q (Ok ((first_year bytes), (first_year bytes + block_count bytes - 1))) (Err Refusal.Block)) (Err Refusal.Volume)) ≡ pick p (pick q 0 12) 11
+    go : (p q : Bool) → answer_number {T = ℕ × ℕ} (pick p (pick q (Ok (first_year bytes, first_year bytes + block_count bytes - 1)) (Err Refusal.Block)) (Err Refusal.Volume)) ≡ pick p (pick q 0 12) 11
     go true true = refl
     go true false = refl
     go false q = refl

@@ -29,7 +29,7 @@ unfoldable pub read_answer : List ℕ → Result (ℕ × ℕ) Refusal
 read_answer bytes =
     pick (whole_blocks (length bytes))
     (pick (all (genuine_at bytes) (block_count bytes))
-    (Ok ((first_year bytes), (first_year bytes + block_count bytes - 1)))
+    (Ok (first_year bytes, first_year bytes + block_count bytes - 1))
     (Err Refusal.Block))
     (Err Refusal.Volume)
 

@@ -5,7 +5,8 @@ use Rattle.std.specs.Prelude.{Result, Ok, Err, ◌&&◌, List, ℕ, zero, suc, �
 use Rattle.reckoning.specs.Search.{pick, all}
 use Rattle.refusal.specs.declared.Refusal.{Refusal}
 use Rattle.blocks.specs.Bytes.{value32, same}
-use Rattle.volumes.specs.Volume.{block_at, is_run, block_in}
+use Rattle.volumes.specs.Volume.{block_at}
+use Rattle.volumes.specs.Volume.{is_run, block_in}
 use Rattle.volumes.specs.Reader.{first_year, genuine_at}
 use Rattle.volumes.specs.declared.reader.Reader.{Reader}
 

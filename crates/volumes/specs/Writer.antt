@@ -28,4 +28,3 @@ buffer_after (Err e) first last buffer = buffer
 
 abbrev pub after_write : ℕ → ℕ → List ℕ → List ℕ
 after_write first last buffer = buffer_after (write_answer first last (length buffer)) first last buffer
-

@@ -25,19 +25,16 @@ pub fn span(first: u64, last: u64) -> Result<u64, Refusal>
 }
 
 // The answer for a span and a buffer of so many bytes.
+#[tactic(auto, unfolding(crate::specs::Writer::write_for))]
 fn answer_for(span: Result<u64, Refusal>, room: usize) -> Result<u64, Refusal>
     ensures { result ≡ write_for span room }
 {
-    match span {
-        Ok(n) => {
-            // in blocks, since the bytes of any number of years whatever could wrap
-            if n <= room as u64 / BYTES {
-                Ok(BYTES * n)
-            } else {
-                Err(Refusal::Room)
-            }
-        }
-        Err(e) => Err(e),
+    let n = span?;
+    // in blocks, since the bytes of any number of years whatever could wrap
+    if n <= room as u64 / BYTES {
+        Ok(BYTES * n)
+    } else {
+        Err(Refusal::Room)
     }
 }
 
@@ -57,14 +54,11 @@ fn put_blocks(out: &mut [u8], first: u64, n: usize)
 }
 
 // The volume from one year to another at the front of the buffer, and the rest of it stays. Refused, nothing is written.
+#[tactic(auto, unfolding(crate::specs::Writer::buffer_after))]
 pub fn write(first: u64, last: u64, out: &mut [u8]) -> Result<u64, Refusal>
     ensures { (result ≡ write_answer first last (length out.old)) × (out.new ≡ after_write first last out.old) }
 {
-    match answer_for(span(first, last), out.len()) {
-        Ok(bytes) => {
-            put_blocks(out, first, (bytes / BYTES) as usize);
-            Ok(bytes)
-        }
-        Err(e) => Err(e),
-    }
+    let bytes = answer_for(span(first, last), out.len())?;
+    put_blocks(out, first, (bytes / BYTES) as usize);
+    Ok(bytes)
 }

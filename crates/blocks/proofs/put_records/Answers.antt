@@ -1,3 +1,4 @@
+use Rattle.calendar.specs.declared.YearHead.{YearHead}
 use Rattle.std.specs.Prelude.{Result}
 use Rattle.refusal.specs.declared.Refusal.{Refusal}
 use Rattle.std.specs.Result.{result_unwrap_or}

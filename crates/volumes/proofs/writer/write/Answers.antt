@@ -1,3 +1,4 @@
+use Rattle.std.specs.Prelude.{ℕ}
 use Rattle.std.specs.Prelude.{Result, Ok}
 use Rattle.refusal.specs.declared.Refusal.{Refusal}
 use native.Mathlib.Omega.{arith}
@@ -12,26 +13,19 @@ pub put_blocks-requires : goal.put_blocks-requires
 put_blocks-requires c =
     let answer : (let x = c.args in c.answer_for.result ≡ write_answer x.first x.last (length x.out.now)) = c.answer_for.ensures ∙ ap (λ (s : Result ℕ Refusal). write_for s (length c.args.out.now)) c.span.ensures in
     let x = c.args in
-    let n = c.in-Ok.bytes in
-    let s = written_of x.first x.last (length x.out.now) n (sym answer ∙ c.in-Ok.is) in
+    let n = c.in_ok-bytes.bytes in
+    let s = written_of x.first x.last (length x.out.now) n (sym answer ∙ c.in_ok-bytes.was) in
     let r = s.run in
     (r.least, omega (arith, s.bytes, r.order), omega (arith, s.bytes, r.order, r.most), omega (arith, s.bytes, s.fits))
 
-pub returns-in-Ok : goal.returns-in-Ok
+pub returns : goal.returns
 unfolding buffer_after
-returns-in-Ok c =
+returns c =
     let answer : (let x = c.args in c.answer_for.result ≡ write_answer x.first x.last (length x.out.now)) = c.answer_for.ensures ∙ ap (λ (s : Result ℕ Refusal). write_for s (length c.args.out.now)) c.span.ensures in
     let x = c.args in
-    let n = c.in-Ok.bytes in
-    let a : write_answer x.first x.last (length x.out.now) ≡ Ok n = sym answer ∙ c.in-Ok.is in
+    let n = c.in_ok-bytes.bytes in
+    let a : write_answer x.first x.last (length x.out.now) ≡ Ok n = sym answer ∙ c.in_ok-bytes.was in
     let s = written_of x.first x.last (length x.out.now) n a in
     let years : n / 512 ≡ x.last + 1 - x.first = omega (arith, s.bytes) in
     let all : 512 * (x.last + 1 - x.first) ≡ n = sym s.bytes in
     (sym a, rw a (rw (years, all) at c.put_blocks.ensures))
-
-pub returns-in-Err : goal.returns-in-Err
-unfolding buffer_after
-returns-in-Err c =
-    let answer : (let x = c.args in c.answer_for.result ≡ write_answer x.first x.last (length x.out.now)) = c.answer_for.ensures ∙ ap (λ (s : Result ℕ Refusal). write_for s (length c.args.out.now)) c.span.ensures in
-    let a = sym answer ∙ c.in-Err.is in
-    (sym a, rw a)
