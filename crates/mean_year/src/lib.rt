@@ -10,6 +10,7 @@ use lunisolar::Calendar;
 use mean_calendar::carries::MonthFields;
 use mean_calendar::{MeanHead, MeanMonth};
 use refusal::Refusal;
+use std::array;
 
 // How many places a year may have.
 pub const PLACES: usize = 13;
@@ -43,12 +44,7 @@ pub fn year_under(k: Calendar, year: u64, head: Result<MeanHead, Refusal>) -> Me
     requires { head ≡ year_head k.constants year }
     ensures { result ≡ mean_year k.constants year }
 {
-    let mut months = [MeanMonth::default(); PLACES];
-    let mut i = 0;
-    while i < PLACES {
-        months[i] = month_at(k, year, head, i as u64);
-        i += 1;
-    }
+    let months = array::from_fn(|i| month_at(k, year, head, i as u64));
     MeanYear { head, months }
 }
 
@@ -62,10 +58,8 @@ pub fn write_months(
     requires { (head ≡ year_head k.constants year) × (length rows.old ≡ places) }
     ensures { rows.new ≡ map month_fields (mean_year k.constants year).months }
 {
-    let mut i = 0;
-    while i < PLACES {
+    for (i, row) in rows.iter_mut().enumerate() {
         let month = month_at(k, year, head, i as u64);
-        rows[i] = month.fields();
-        i += 1;
+        *row = month.fields();
     }
 }

@@ -11,6 +11,7 @@ use crate::heads::{head_by, mean_head};
 use crate::rows::{RowFields, with_node};
 use crate::{Zhengguang, ZhengguangRow};
 use mean_year::PLACES;
+use std::array;
 
 // Its head, or why it is refused, and its rows by place, with zeros past them.
 #[derive(Clone, Copy)]
@@ -32,12 +33,7 @@ pub fn year_by_value(year: u64) -> ZhengguangYear
 {
     let mean = mean_head(year);
     let head = head_by(year, mean);
-    let mut rows = [ZhengguangRow::default(); PLACES];
-    let mut i = 0;
-    while i < PLACES {
-        rows[i] = row_at(year, mean, i as u64);
-        i += 1;
-    }
+    let rows = array::from_fn(|i| row_at(year, mean, i as u64));
     ZhengguangYear { head, rows }
 }
 
@@ -46,11 +42,9 @@ fn write_rows(year: u64, mean: Result<MeanHead, Refusal>, rows: &mut [RowFields]
     requires { (mean ≡ heads.year_head zhengguang year) × (length rows.old ≡ places) }
     ensures { rows.new ≡ map row_fields (year_rows year).rows }
 {
-    let mut i = 0;
-    while i < PLACES {
+    for (i, place) in rows.iter_mut().enumerate() {
         let row = row_at(year, mean, i as u64);
-        rows[i] = row.fields();
-        i += 1;
+        *place = row.fields();
     }
 }
 

@@ -12,5 +12,5 @@ returns c =
     let made = c.from_fn.ensures.items in
     ext_get_or (stage_of []) c.from_fn.result (map stage_of rows) (omega (arith, length-map rows stage_of, made.long))
     (λ i h.
-    made_at _ (λ k. stage_of (get_or rows k [])) _ (λ j y q w. search rules) c.from_fn.result 14 0 made.each i (omega arith) (omega (arith, made.long)) (stage_of [])
+    made_at _ (λ k. stage_of (get_or rows k [])) _ (λ j y q w. search rules) c.from_fn.result 14 made i (omega (arith, made.long)) (stage_of [])
     ∙ sym (get_or-map stage_of rows i []))
