@@ -80,11 +80,8 @@ fn fill_under(
 {
     let have = rows.len();
     let n = to_write(head, have);
-    let mut i = 0;
-    while i < n {
-        let r = row_at(year, head, i);
-        rows[i] = r;
-        i += 1;
+    for (i, row) in rows[..n].iter_mut().enumerate() {
+        *row = row_at(year, head, i);
     }
     answer_for(head, have)
 }
