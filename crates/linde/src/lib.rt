@@ -13,11 +13,13 @@ ghost use Rattle.mean_walk.specs.Walked.{walk_answer, walk_answer_fields};
 ghost use Rattle.mean_year.specs.Years.{mean_year};
 ghost use Rattle.linde.specs.Linde.{linde};
 
-use refusal::Refusal;
+use lunisolar::dates::{Date, Day};
 use lunisolar::{Calendar, Constants};
 use mean_calendar::carries::MonthFields;
-use mean_calendar::MeanMonth;
+use mean_calendar::{MeanHead, MeanMonth, MeanPoint};
+use mean_walk::MeanWalk;
 use mean_year::{MeanYear, PLACES};
+use refusal::Refusal;
 
 #[derive(Clone, Copy)]
 pub struct Linde;

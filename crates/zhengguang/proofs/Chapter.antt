@@ -1,5 +1,6 @@
 -- The Zhengguang's head by its printed chapter, as a reader checks it.
 -- Assumes nothing.
+use Rattle.mean_calendar.specs.declared.MeanHead.{MeanHead}
 use Rattle.std.specs.Prelude.{Result, Ok, Err}
 use Rattle.refusal.specs.declared.Refusal.{Refusal}
 use mathlib.Core.Path.{◌≡◌, refl}

@@ -11,7 +11,6 @@ use borrow.Author.Tests.{eq-eqb}
 use lib.Dec.{eqb, eqb→eq}
 use lib.ListN.{get_or, get_or-append}
 use Rattle.reckoning.proofs.Searches.{all_at}
-
 use Rattle.walking.specs.Fields.{same_fields}
 use Rattle.walking.proofs.Walks.{Lawful}
 use Rattle.mean_calendar.specs.Months.{month_of, month_fields}

@@ -1,5 +1,10 @@
 -- The numbers returned (01, "Numbers returned"), as equations on all inputs, the lowest that applies first; and zero values with each refusal.
 -- Assumes nothing.
+use Rattle.zhengguang.specs.declared.walks.ZhengguangWalk.{ZhengguangWalk}
+use Rattle.zhengguang.specs.declared.MonthNodes.{MonthNodes}
+use Rattle.zhengguang.specs.declared.ZhengguangHead.{ZhengguangHead}
+use Rattle.mean_calendar.specs.declared.MeanMonth.{MeanMonth}
+use Rattle.mean_calendar.specs.declared.MeanHead.{MeanHead}
 use Rattle.std.specs.Prelude.{Result, Ok, Err}
 use Rattle.refusal.specs.declared.Refusal.{Refusal}
 use Rattle.refusal.specs.Numbers.{answer_number}

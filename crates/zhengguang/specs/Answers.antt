@@ -18,4 +18,3 @@ zero_distance = record { degrees = 0; remainder = record { parts = 0 }; half = 0
 
 abbrev pub zero_nodes : MonthNodes
 zero_nodes = record { new = zero_distance; full = zero_distance }
-

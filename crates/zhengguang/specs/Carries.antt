@@ -40,4 +40,3 @@ walk_answer_fields f cs = pick (genuine_fields f) (Ok (walked (row_of (named_mon
 
 abbrev pub zero_walk : ZhengguangWalk
 zero_walk = record { row = zero_row; sum = pos 0; answered = 0 }
-

@@ -1,5 +1,7 @@
 -- A year's head and a month's row (02 §9): any calendar's, with what the Zhengguang has beside them.
 -- Assumes nothing.
+use Rattle.zhengguang.specs.declared.ZhengguangHead.{ZhengguangHead}
+use Rattle.mean_calendar.specs.declared.MeanHead.{MeanHead}
 use Rattle.std.specs.Prelude.{Result, Ok, Err, List, [], ◌∷◌, ◌++◌, ℕ, ◌-◌}
 use Rattle.refusal.specs.declared.Refusal.{Refusal}
 use Rattle.mean_calendar.specs.Parts.{over_day}

@@ -2,9 +2,9 @@
 ghost use Rattle.std.specs.Prelude.{◌≡◌, pos, negsuc};
 ghost use Rattle.zhengguang.specs.Carries.{carried, genuine_fields, carried_fields};
 
-use refusal::Refusal;
 use crate::rows::{RowFields, row_of};
 use crate::{Zhengguang, ZhengguangRow};
+use refusal::Refusal;
 use walking::fields::same_fields;
 
 // Whether a row is that of the month of the round that it names.
@@ -24,10 +24,8 @@ pub fn carry_fields(fields: &RowFields, count: i64) -> Result<ZhengguangRow, Ref
     ensures { result ≡ carried_fields fields.now count }
 {
     let genuine = is_genuine(fields);
-    match walking::land(Zhengguang::MONTHS, genuine, fields[0], count) {
-        Ok(m) => Ok(row_of(m)),
-        Err(e) => Err(e),
-    }
+    let m = walking::land(Zhengguang::MONTHS, genuine, fields[0], count)?;
+    Ok(row_of(m))
 }
 
 impl ZhengguangRow {

@@ -4,8 +4,9 @@ ghost use Rattle.mean_calendar.specs.Heads as heads;
 ghost use Rattle.zhengguang.specs.Zhengguang.{zhengguang, leap_remainder};
 ghost use Rattle.zhengguang.specs.Rows.{year_head};
 
-use refusal::Refusal;
 use crate::{Zhengguang, ZhengguangHead};
+use mean_calendar::MeanHead;
+use refusal::Refusal;
 
 // The leap remainder of a year, counted from 0.
 fn leap_remainder(y: u64) -> u64
@@ -16,17 +17,14 @@ fn leap_remainder(y: u64) -> u64
 }
 
 // The head of a year from any calendar's.
+#[tactic(auto, unfolding(crate::specs::Rows::head_by))]
 pub fn head_by(year: u64, mean: Result<MeanHead, Refusal>) -> Result<ZhengguangHead, Refusal>
     requires { mean ≡ heads.year_head zhengguang year }
     ensures { result ≡ year_head year }
 {
-    match mean {
-        Ok(mean) => {
-            let remainder = leap_remainder(year - 1);
-            Ok(ZhengguangHead { mean, remainder })
-        }
-        Err(e) => Err(e),
-    }
+    let mean = mean?;
+    let remainder = leap_remainder(year - 1);
+    Ok(ZhengguangHead { mean, remainder })
 }
 
 // Any calendar's head of a year.

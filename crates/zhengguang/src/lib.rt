@@ -8,12 +8,12 @@ ghost use Rattle.lunisolar.specs.Dates.{day_of_date, date_of_day};
 ghost use Rattle.mean_calendar.specs.Points.{cut_point};
 ghost use Rattle.zhengguang.specs.Zhengguang.{zhengguang};
 
+use lunisolar::dates::{Date, Day};
 use lunisolar::{Calendar, Constants};
 use mean_calendar::parts::DayParts;
-use mean_calendar::{MeanHead, MeanMonth};
+use mean_calendar::{MeanHead, MeanMonth, MeanPoint};
 use refusal::Refusal;
 
-pub mod answers;
 pub mod carries;
 pub mod heads;
 pub mod nodes;

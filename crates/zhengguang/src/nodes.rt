@@ -4,9 +4,9 @@ ghost use Rattle.mean_calendar.specs.Parts.{over_day};
 ghost use Rattle.zhengguang.specs.Zhengguang.{zhengguang};
 ghost use Rattle.zhengguang.specs.Nodes.{since_node, distance_of, nodes_of, nodes_at};
 
-use refusal::Refusal;
 use crate::{MonthNodes, NodeDistance, Zhengguang};
 use mean_calendar::parts::{DayShare, over_day};
+use refusal::Refusal;
 
 // The distance at the new moon of a month, in degrees and remainder.
 pub fn new_moon_distance(lunation: u64) -> DayShare
@@ -41,11 +41,10 @@ fn nodes_of(lunation: u64) -> MonthNodes
     MonthNodes { new, full }
 }
 
+#[tactic(auto, unfolding(crate::specs::Nodes::nodes_for))]
 pub fn nodes(year: u64, place: u64) -> Result<MonthNodes, Refusal>
     ensures { result ≡ nodes_at year place }
 {
-    match lunisolar::lunation_at(Zhengguang::calendar(), year, place) {
-        Ok(m) => Ok(nodes_of(m)),
-        Err(e) => Err(e),
-    }
+    let m = lunisolar::lunation_at(Zhengguang::calendar(), year, place)?;
+    Ok(nodes_of(m))
 }

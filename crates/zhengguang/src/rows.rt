@@ -3,10 +3,10 @@ ghost use Rattle.std.specs.Prelude.{◌≡◌, ◌<◌};
 ghost use Rattle.zhengguang.specs.Zhengguang.{round_months};
 ghost use Rattle.zhengguang.specs.Rows.{row_by, row_of, row_fields, month_row};
 
-use refusal::Refusal;
 use crate::nodes::new_moon_distance;
 use crate::{Zhengguang, ZhengguangRow};
 use mean_calendar::MeanMonth;
+use refusal::Refusal;
 
 // How many numbers a row has.
 pub const FIELDS: usize = 10;
@@ -58,13 +58,12 @@ pub fn row_of(lunation: u64) -> ZhengguangRow
     with_node(mean_calendar::months::month_of(Zhengguang::calendar(), lunation))
 }
 
+#[tactic(auto, unfolding(crate::specs::Rows::row_for))]
 pub fn month_row(year: u64, place: u64) -> Result<ZhengguangRow, Refusal>
     ensures { result ≡ month_row year place }
 {
     let k = Zhengguang::calendar();
     let month = lunisolar::lunation_at(k, year, place);
-    match mean_calendar::months::month_for(k, year, place, month) {
-        Ok(mean) => Ok(with_node(mean)),
-        Err(e) => Err(e),
-    }
+    let mean = mean_calendar::months::month_for(k, year, place, month)?;
+    Ok(with_node(mean))
 }

@@ -6,11 +6,12 @@ ghost use Rattle.zhengguang.specs.Zhengguang.{zhengguang};
 ghost use Rattle.zhengguang.specs.Rows.{row_fields, year_head};
 ghost use Rattle.zhengguang.specs.Years.{row_at, year_rows};
 
-use refusal::Refusal;
 use crate::heads::{head_by, mean_head};
 use crate::rows::{RowFields, with_node};
-use crate::{Zhengguang, ZhengguangRow};
+use crate::{Zhengguang, ZhengguangHead, ZhengguangRow};
+use mean_calendar::MeanHead;
 use mean_year::PLACES;
+use refusal::Refusal;
 use std::array;
 
 // Its head, or why it is refused, and its rows by place, with zeros past them.

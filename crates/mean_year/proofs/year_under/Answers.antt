@@ -7,4 +7,4 @@ pub returns : goal.returns
 returns c =
     let x = c.args in
     let all = made_list _ (month_at x.k.constants x.year) _ (λ i y q w. search rules) c.from_fn-months.result places c.from_fn-months.ensures.items in
-    rw (all, c.requires.1) refl
+    rw (all, c.requires) refl

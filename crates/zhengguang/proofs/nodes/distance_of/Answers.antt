@@ -4,4 +4,4 @@ use Rattle.zhengguang.proofs.nodes.distance_of.Goals as goal
 
 pub returns : goal.returns
 unfolding distance_of
-returns c = rw (c.over_day-share.ensures, c.constants.ensures.0) refl
+returns c = rw (c.over_day-share.ensures, c.calendar.ensures) refl

@@ -7,7 +7,7 @@ use Rattle.zhengguang.specs.Rows.{row_by, row_of}
 use Rattle.zhengguang.proofs.rows.row_of.Goals as goal
 
 is_month : (a : goal.After-month_of) → a.month_of.result ≡ month_of zhengguang a.args.lunation
-is_month a = rw a.constants.ensures.0 at a.month_of.ensures
+is_month a = rw a.calendar.ensures at a.month_of.ensures
 
 pub with_node-requires : goal.with_node-requires
 unfolding month_of

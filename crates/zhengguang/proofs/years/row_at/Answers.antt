@@ -8,7 +8,7 @@ use Rattle.zhengguang.proofs.years.row_at.Goals as goal
 
 -- any calendar's month at the place
 month : (a : goal.After-month_at) → (let x = a.args in a.month_at.result ≡ month_at zhengguang x.year x.place)
-month a = rw a.constants.ensures.0 at a.month_at.ensures
+month a = rw a.calendar.ensures at a.month_at.ensures
 
 pub with_node-requires : goal.with_node-requires
 with_node-requires c = let x = c.args in rw (month c) (place_low x.year x.place)
