@@ -1,6 +1,7 @@
 -- The values of each answer as the list of numbers that is written to the lent array, in the order of include/xinghe.h. A row's are its fields
 -- (calendar, `row_fields`).
 -- Assumes nothing.
+use Rattle.names.specs.declared.NameLocation.{NameLocation}
 use Rattle.std.specs.Prelude.{Result, Ok, Err, List, [], ◌∷◌, map, ℕ}
 use Rattle.refusal.specs.declared.Refusal.{Refusal}
 use Rattle.names.specs.Names.{whose_number}

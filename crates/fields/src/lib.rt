@@ -4,14 +4,14 @@
 ghost use Rattle.std.specs.Prelude.{◌≡◌};
 ghost use Rattle.fields.specs.Fields.{head_fields, day_fields, date_fields, phases_fields, nodes_fields, corrections_fields, point_fields, conjunctions_fields, location_fields};
 
-use refusal::Refusal;
-use refusal::Numbered;
 use anomaly::Corrections;
 use calendar::YearHead;
 use lunisolar::dates::{Date, Day};
 use moon::phases::Phases;
+use names::NameLocation;
 use node::Nodes;
 use planets::TwoConjunctions;
+use refusal::{Numbered, Refusal};
 use sun::Point;
 use walking::fields::bit;
 

@@ -26,9 +26,9 @@ ghost use Rattle.volumes.specs.Reader.{read_answer, read_years};
 ghost use Rattle.reigns.specs.Marked.{marked_answer, marked_moons};
 ghost use Rattle.mending.specs.Mended.{mend_answer, after_mend, after_notes};
 
-use refusal::Numbered;
 use calendar::rows::{FIELDS, RowFields};
 use mending::MOST_BLOCKS;
+use refusal::Numbered;
 
 pub mod of_linde;
 pub mod of_zhengguang;
@@ -121,7 +121,7 @@ pub extern "C" fn xinghe_stages(planet: u64, count: &mut [u64; 1], out: &mut [[u
     ensures { (result ≡ answer_number (stages_at planet).count) × (count.new ≡ result_unwrap_or (stages_at planet).count 0 ∷ []) × (out.new ≡ stages_fields (stages_at planet).stages) }
 {
     let counted = planets::stage_count(planet);
-    *count = [counted.value()];
+    *count = [counted.unwrap_or(0)];
     *out = planets::table::rows_of(planet);
     counted.number()
 }
@@ -181,14 +181,12 @@ pub extern "C" fn xinghe_fill_year(year: u64, out: &mut [u64]) -> u64
 {
     let head = calendar::heads::year_head(year);
     let answer = years::answer_in(head, out.len());
-    let n = answer.count() as usize;
+    let n = answer.unwrap_or(0) as usize;
     let mut elements = year_list::first_elements(head);
-    let mut i = 0;
-    while i < n {
+    for i in 0..n {
         years::put(out, FIELDS * i, years::fields_at(year, head, i, elements));
         // the next month's by additions, which is shorter than from the origin
         elements = elements.next();
-        i += 1;
     }
     answer.number()
 }
@@ -205,7 +203,7 @@ pub extern "C" fn xinghe_write_volume(
     ensures { (result ≡ answer_number (write_answer first last (length out.old))) × (out.new ≡ after_write first last out.old) × (count.new ≡ result_unwrap_or (write_answer first last (length out.old)) 0 ∷ []) }
 {
     let answer = volumes::writer::write(first, last, out);
-    *count = [answer.count()];
+    *count = [answer.unwrap_or(0)];
     answer.number()
 }
 
@@ -215,7 +213,8 @@ pub extern "C" fn xinghe_read_volume(volume: &[u8], years: &mut [u64; 2]) -> u64
     ensures { (result ≡ answer_number (read_answer volume.now)) × (years.new ≡ read_years (read_answer volume.now)) }
 {
     let answer = volumes::reader::read(volume);
-    *years = answer.years();
+    let (first, last) = answer.unwrap_or_default();
+    *years = [first, last];
     answer.number()
 }
 
@@ -225,7 +224,8 @@ pub extern "C" fn xinghe_marked(volume: &[u8], from: u64, to: u64, moons: &mut [
     ensures { (result ≡ answer_number (marked_answer volume.now from to)) × (moons.new ≡ marked_moons (marked_answer volume.now from to)) }
 {
     let answer = reigns::marked(volume, from, to);
-    *moons = answer.moons();
+    let (news, fulls) = answer.unwrap_or_default();
+    *moons = [news, fulls];
     answer.number()
 }
 
@@ -240,6 +240,6 @@ pub extern "C" fn xinghe_mend(
     ensures { (result ≡ answer_number (mend_answer volume.old)) × (volume.new ≡ after_mend volume.old) × (damaged.new ≡ after_notes volume.old damaged.old) × (count.new ≡ result_unwrap_or (mend_answer volume.old) 0 ∷ []) }
 {
     let mended = mending::mend(volume, damaged);
-    *count = [mended.count()];
+    *count = [mended.unwrap_or(0)];
     mended.number()
 }

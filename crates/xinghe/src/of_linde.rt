@@ -16,10 +16,10 @@ ghost use Rattle.fields.specs.Fields.{day_fields, date_fields};
 ghost use Rattle.fields.specs.Walks.{totals_fields};
 ghost use Rattle.fields.specs.Calendars.{mean_head_fields, mean_point_fields};
 
-use refusal::Numbered;
 use linde::Linde;
 use mean_calendar::carries::MonthFields;
 use mean_year::PLACES;
+use refusal::Numbered;
 
 #[unsafe(no_mangle)]
 pub extern "C" fn linde_year_head(year: u64, out: &mut [u64; 5]) -> u64

@@ -16,8 +16,8 @@ ghost use Rattle.fields.specs.Fields.{day_fields, date_fields};
 ghost use Rattle.fields.specs.Walks.{totals_fields};
 ghost use Rattle.fields.specs.Calendars.{mean_point_fields, zhengguang_head_fields, month_nodes_fields};
 
-use refusal::Numbered;
 use mean_year::PLACES;
+use refusal::Numbered;
 use zhengguang::Zhengguang;
 use zhengguang::rows::RowFields;
 

@@ -9,9 +9,10 @@ ghost use Rattle.calendar.specs.Answers.{zero_head};
 ghost use Rattle.year_list.specs.Filled.{row_at};
 ghost use Rattle.xinghe.specs.Years.{answer_in};
 
-use refusal::Refusal;
+use calendar::YearHead;
 use calendar::elements::Elements;
 use calendar::rows::{FIELDS, RowFields};
+use refusal::Refusal;
 
 // The answer for a year with that head and a list of that many numbers.
 pub fn answer_in(head: Result<YearHead, Refusal>, have: usize) -> Result<u64, Refusal>
@@ -21,7 +22,12 @@ pub fn answer_in(head: Result<YearHead, Refusal>, have: usize) -> Result<u64, Re
 }
 
 // The numbers of the row at a place of the year with that head, whose new moon's elements are at hand.
-pub fn fields_at(year: u64, head: Result<YearHead, Refusal>, place: usize, elements: Elements) -> RowFields
+pub fn fields_at(
+    year: u64,
+    head: Result<YearHead, Refusal>,
+    place: usize,
+    elements: Elements,
+) -> RowFields
     requires { (head ≡ year_head year) × (place < (result_unwrap_or head zero_head).months) × (elements ≡ elements_of ((result_unwrap_or head zero_head).before + place)) }
     ensures { result ≡ row_fields (row_at year place) }
 {
@@ -33,9 +39,5 @@ pub fn put(out: &mut [u64], at: usize, numbers: RowFields)
     requires { at + field_count ≤ length out.old }
     ensures { out.new ≡ paste out.old at numbers field_count }
 {
-    let mut j = 0;
-    while j < FIELDS {
-        out[at + j] = numbers[j];
-        j += 1;
-    }
+    out[at..at + FIELDS].copy_from_slice(&numbers);
 }

@@ -1,3 +1,4 @@
+use Rattle.calendar.specs.declared.YearHead.{YearHead}
 use Rattle.std.specs.Prelude.{Result}
 use Rattle.refusal.specs.declared.Refusal.{Refusal}
 use Rattle.std.specs.Result.{result_unwrap_or}
@@ -28,26 +29,26 @@ unfolding rows_fields rows_from
 loop-i-init c =
     let headed : c.year_head-head.result ≡ year_head c.args.year = c.year_head-head.ensures in
     let answered : (let x = c.args in c.answer_in-answer.result ≡ fill_answer_in x.year (length x.out.now)) = c.answer_in-answer.ensures ∙ ap (λ (h : Result YearHead Refusal). answer_in h (length c.args.out.now)) headed in
-    let counted : (let x = c.args in c.count-n.result ≡ result_unwrap_or (fill_answer_in x.year (length x.out.now)) 0) = c.count-n.ensures ∙ ap (λ r. result_unwrap_or r 0) answered in
+    let counted : (let x = c.args in c.unwrap_or-n.result ≡ result_unwrap_or (fill_answer_in x.year (length x.out.now)) 0) = c.unwrap_or-n.ensures ∙ ap (λ r. result_unwrap_or r 0) answered in
     let x = c.args in
     let b = (result_unwrap_or c.year_head-head.result zero_head).before in
     let e : b ≡ b + 0 = omega arith in
-    (omega arith, rw counted (holds x.year (length x.out.now)), refl, c.first_elements-elements.ensures ∙ ap elements_of e)
+    (rw counted (holds x.year (length x.out.now)), refl, c.first_elements-elements.ensures ∙ ap elements_of e)
 
 pub fields_at-requires : goal.fields_at-requires
 fields_at-requires c =
     let headed : c.year_head-head.result ≡ year_head c.args.year = c.year_head-head.ensures in
-    let place : (c.loop-i.i < (result_unwrap_or c.year_head-head.result zero_head).months) = let n : c.count-n.result ≡ result_unwrap_or (answer_in c.year_head-head.result (length c.args.out.now)) 0 = c.count-n.ensures ∙ ap (λ r. result_unwrap_or r 0) c.answer_in-answer.ensures in
+    let place : (c.loop-i.i < (result_unwrap_or c.year_head-head.result zero_head).months) = let n : c.unwrap_or-n.result ≡ result_unwrap_or (answer_in c.year_head-head.result (length c.args.out.now)) 0 = c.unwrap_or-n.ensures ∙ ap (λ r. result_unwrap_or r 0) c.answer_in-answer.ensures in
     below_months c.year_head-head.result (length c.args.out.now / field_count) c.loop-i.i (omega (arith, n, c.loop-i-test.true)) in
-    (headed, place, c.loop-i.invariant.3)
+    (headed, place, c.loop-i.invariant.2)
 
 pub next-elements-requires : goal.next-elements-requires
 next-elements-requires c =
     let headed : c.year_head-head.result ≡ year_head c.args.year = c.year_head-head.ensures in
-    let place : (c.loop-i.i < (result_unwrap_or c.year_head-head.result zero_head).months) = let n : c.count-n.result ≡ result_unwrap_or (answer_in c.year_head-head.result (length c.args.out.now)) 0 = c.count-n.ensures ∙ ap (λ r. result_unwrap_or r 0) c.answer_in-answer.ensures in
+    let place : (c.loop-i.i < (result_unwrap_or c.year_head-head.result zero_head).months) = let n : c.unwrap_or-n.result ≡ result_unwrap_or (answer_in c.year_head-head.result (length c.args.out.now)) 0 = c.unwrap_or-n.ensures ∙ ap (λ r. result_unwrap_or r 0) c.answer_in-answer.ensures in
     below_months c.year_head-head.result (length c.args.out.now / field_count) c.loop-i.i (omega (arith, n, c.loop-i-test.true)) in
     let x = c.year_head-head.result in
-    rw c.loop-i.invariant.3 (elements_bound ((result_unwrap_or x zero_head).before + c.loop-i.i) (month_in_round c.args.year x c.loop-i.i headed place))
+    rw c.loop-i.invariant.2 (elements_bound ((result_unwrap_or x zero_head).before + c.loop-i.i) (month_in_round c.args.year x c.loop-i.i headed place))
 
 pub loop-i-preserved : goal.loop-i-preserved
 loop-i-preserved c =
@@ -55,8 +56,7 @@ loop-i-preserved c =
     let i = c.loop-i.i in
     let b = (result_unwrap_or c.year_head-head.result zero_head).before in
     let e : suc (b + i) ≡ b + (i + 1) = omega arith in (
-      omega arith,
-      c.loop-i.invariant.1,
-      rw (c.put.ensures, c.fields_at.ensures, c.loop-i.invariant.2) (one_more x.year i x.out.now),
-      c.next-elements.ensures ∙ ap next_elements c.loop-i.invariant.3 ∙ next_elements_lem (b + i) ∙ ap elements_of e,
+      c.loop-i.invariant.0,
+      rw (c.put.ensures, c.fields_at.ensures, c.loop-i.invariant.1) (one_more x.year i x.out.now),
+      c.next-elements.ensures ∙ ap next_elements c.loop-i.invariant.2 ∙ next_elements_lem (b + i) ∙ ap elements_of e,
     )

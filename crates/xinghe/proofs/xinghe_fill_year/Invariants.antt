@@ -11,7 +11,4 @@ use Rattle.xinghe.proofs.xinghe_fill_year.Given as goal
 -- so many rows are written, and the elements are those of the next month's new moon
 abbrev pub invariant-loop-i : goal.invariant-loop-i
 invariant-loop-i l =
-    (l.i ≤ l.n) × (field_count * l.n ≤ length l.initial.out) × (l.out ≡ front_fields l.year l.i l.initial.out) × (l.elements ≡ elements_of ((result_unwrap_or l.head zero_head).before + l.i))
-
-abbrev pub decreases-loop-i : goal.decreases-loop-i
-decreases-loop-i l = l.n - l.i
+    (field_count * l.n ≤ length l.initial.out) × (l.out ≡ front_fields l.year l.i l.initial.out) × (l.elements ≡ elements_of ((result_unwrap_or l.head zero_head).before + l.i))
