@@ -1,11 +1,11 @@
 // Answers on a line: their values in the order in which every line of their question has them.
-use refusal::Numbered;
 use anomaly::{Anomaly, Corrected};
 use calendar::{MonthRow, YearHead};
 use lines::Line;
 use lunisolar::dates::Day;
 use moon::phases::{Phase, Phases};
 use node::{Distance, Eclipse, Node, Side};
+use refusal::Numbered;
 use sun::Point;
 
 pub fn with_head(line: Line, head: YearHead) -> Line {

@@ -3,14 +3,15 @@ ghost use Rattle.std.specs.Prelude.{◌<◌};
 ghost use Rattle.linde.specs.Linde.{lunations};
 ghost use Rattle.mean_calendar.specs.Months.{field_count};
 
-use refusal::Refusal;
 use crate::{fields, mean_questions, questions};
 use linde::Linde;
 use lines::Line;
 use lines::digest::Digest;
 use mean_calendar::carries::{FIELDS, MonthFields};
 use mean_calendar::{MeanHead, MeanMonth};
+use mean_walk::MeanWalk;
 use mean_year::PLACES;
+use refusal::Refusal;
 use std::io;
 
 fn asked(question: &[u8]) -> Line {
@@ -73,10 +74,14 @@ pub fn ask_date(rt: &impl Print, number: u64) -> io::Result<()> {
 fn month_of(lunation: u64) -> MeanMonth
     requires { lunation < lunations }
 {
-    mean_calendar::months::month_of(Linde::constants(), lunation)
+    mean_calendar::months::month_of(Linde::calendar(), lunation)
 }
 
-fn write_carried(rt: &impl Print, line: Line, answer: Result<MeanMonth, Refusal>) -> io::Result<()> {
+fn write_carried(
+    rt: &impl Print,
+    line: Line,
+    answer: Result<MeanMonth, Refusal>,
+) -> io::Result<()> {
     match answer {
         Ok(month) => {
             let numbers = month.fields();

@@ -1,8 +1,10 @@
 // What the Zhengguang and the Linde calendar are asked alike: how their lines begin, and the answers of which both have one kind.
-use refusal::Refusal;
 use crate::fields;
 use lines::Line;
 use lines::digest::Digest;
+use lunisolar::dates::Day;
+use mean_calendar::MeanPoint;
+use refusal::Refusal;
 use std::io;
 
 // A line begins with its calendar's name, since the questions have the same names in all calendars.
@@ -39,7 +41,11 @@ pub fn write_walk(
         .write(rt)
 }
 
-pub fn write_point(rt: &impl Print, line: Line, answer: Result<MeanPoint, Refusal>) -> io::Result<()> {
+pub fn write_point(
+    rt: &impl Print,
+    line: Line,
+    answer: Result<MeanPoint, Refusal>,
+) -> io::Result<()> {
     match answer {
         Ok(point) => {
             let remainder = point.remainder;

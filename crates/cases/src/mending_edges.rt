@@ -1,13 +1,13 @@
 // Mending: a buffer that holds a volume of which blocks and bytes were altered, and a list for the indices of the damaged blocks.
 ghost use Rattle.std.specs.Prelude.{◌≡◌, ◌+◌, ◌*◌, ◌<◌, ◌≤◌, length};
 
-use refusal::Refusal;
 use crate::volume_edges;
 use crate::volume_edges::{BUFFER, WHOLE};
 use blocks::BLOCK;
 use lines::Line;
 use lines::digest::Digest;
 use mending::MOST_BLOCKS;
+use refusal::Refusal;
 use std::io;
 
 // Every number of the list before it is lent.

@@ -1,7 +1,7 @@
 // The planets: conjunctions of the years at the edges, the stages, and what is refused.
-use refusal::Numbered;
 use lines::Line;
 use planets::{Conjunction, Stage, TwoConjunctions};
+use refusal::Numbered;
 use std::io;
 
 fn with_conjunction(line: Line, conjunction: Conjunction) -> Line {

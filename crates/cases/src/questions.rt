@@ -3,11 +3,12 @@ ghost use Rattle.std.specs.Prelude.{◌<◌};
 ghost use Rattle.units.specs.Xinghe.{round_months};
 ghost use Rattle.calendar.specs.Rows.{field_count};
 
-use refusal::Refusal;
 use crate::fields;
-use calendar::rows::FIELDS;
 use calendar::MonthRow;
+use calendar::rows::FIELDS;
 use lines::Line;
+use lunisolar::dates::Date;
+use refusal::Refusal;
 use std::io;
 use units::remainder::DayRemainder;
 

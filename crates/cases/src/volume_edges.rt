@@ -1,9 +1,9 @@
 // Volumes: what is written to a lent buffer, then what is read from one.
 ghost use Rattle.std.specs.Prelude.{◌≡◌, ◌≤◌, length};
 
-use refusal::Refusal;
 use lines::Line;
 use lines::digest::Digest;
+use refusal::Refusal;
 use std::io;
 
 // The bytes of the buffer, room for four years.
@@ -59,7 +59,7 @@ pub fn altered(first: u64, last: u64, at: usize, byte: u8) -> [u8; BUFFER]
     ensures { 2048 ≡ length result }
 {
     let mut buffer = lent(0);
-    volumes::writer::write(first, last, &mut buffer);
+    let _ = volumes::writer::write(first, last, &mut buffer);
     if at < BUFFER {
         buffer[at] = byte;
     }

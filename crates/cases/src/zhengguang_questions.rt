@@ -3,13 +3,14 @@ ghost use Rattle.std.specs.Prelude.{◌<◌};
 ghost use Rattle.zhengguang.specs.Zhengguang.{round_months};
 ghost use Rattle.zhengguang.specs.Rows.{field_count};
 
-use refusal::Refusal;
 use crate::{fields, mean_questions, questions};
 use lines::Line;
 use lines::digest::Digest;
 use mean_year::PLACES;
+use refusal::Refusal;
 use std::io;
 use zhengguang::rows::{FIELDS, RowFields};
+use zhengguang::walks::ZhengguangWalk;
 use zhengguang::{NodeDistance, Zhengguang, ZhengguangHead, ZhengguangRow};
 
 fn asked(question: &[u8]) -> Line {
@@ -91,7 +92,11 @@ pub fn ask_date(rt: &impl Print, number: u64) -> io::Result<()> {
     questions::write_date(rt, line, Zhengguang::date_of_day(number))
 }
 
-fn write_carried(rt: &impl Print, line: Line, answer: Result<ZhengguangRow, Refusal>) -> io::Result<()> {
+fn write_carried(
+    rt: &impl Print,
+    line: Line,
+    answer: Result<ZhengguangRow, Refusal>,
+) -> io::Result<()> {
     match answer {
         Ok(row) => {
             let numbers = row.fields();
@@ -151,7 +156,11 @@ pub fn ask_forged_fields(rt: &impl Print, lunation: u64) -> io::Result<()>
     Ok(())
 }
 
-fn write_walk(rt: &impl Print, line: Line, answer: Result<ZhengguangWalk, Refusal>) -> io::Result<()> {
+fn write_walk(
+    rt: &impl Print,
+    line: Line,
+    answer: Result<ZhengguangWalk, Refusal>,
+) -> io::Result<()> {
     match answer {
         Ok(end) => {
             let row = end.row;

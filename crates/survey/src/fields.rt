@@ -1,11 +1,11 @@
 // Answers fed to a digest: their values in the order in which the second program feeds them.
-use refusal::Numbered;
 use anomaly::{Anomaly, Corrected, Corrections};
 use calendar::MonthRow;
 use lines::digest::Digest;
 use moon::phases::{Phase, Phases};
 use node::{Distance, Node, Nodes, Side};
 use planets::{Conjunction, TwoConjunctions};
+use refusal::Numbered;
 use sun::Point;
 use walking::Sign;
 

@@ -46,7 +46,7 @@ fn feed_first(digest: Digest, list: &[u64; MOST_BLOCKS], n: usize) -> Digest
 // How many blocks were written afresh, which, and the mended volume.
 fn feed_volume(digest: Digest, bytes: &mut [u8]) -> Digest {
     let mut list = [0u64; MOST_BLOCKS];
-    let count = mending::mend(bytes, &mut list).count();
+    let count = mending::mend(bytes, &mut list).unwrap_or(0);
     volume::feed_words(feed_first(digest.feed(count), &list, at_most(count)), bytes)
 }
 

@@ -1,12 +1,12 @@
 // The marked moons of every year, told from the volume of the whole round: from two of its blocks, as if all before them had been cut off.
-use refusal::Refusal;
 use crate::volume::{PAIR, put_block};
 use blocks::BLOCK;
 use lines::digest::Digest;
+use refusal::Refusal;
 
 fn feed_moons(digest: Digest, answer: Result<(u64, u64), Refusal>) -> Digest {
-    let moons = answer.moons();
-    digest.feed(moons[0]).feed(moons[1])
+    let (news, fulls) = answer.unwrap_or_default();
+    digest.feed(news).feed(fulls)
 }
 
 // The first year starts the volume; of any other, what its block has more than the one before.

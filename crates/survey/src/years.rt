@@ -154,14 +154,20 @@ fn feed_cut(digest: Digest, year: u64, cut: u64) -> Digest {
     let mut fed = digest;
     let mut index = 0;
     while index < cut {
-        fed = fields::fed_point(fed, ephemeris::cut_point(year, cut, index).unwrap_or_default());
+        fed = fields::fed_point(
+            fed,
+            ephemeris::cut_point(year, cut, index).unwrap_or_default(),
+        );
         index += 1;
     }
     fed
 }
 
 fn feed_planet(digest: Digest, year: u64, planet: u64) -> Digest {
-    fields::fed_conjunctions(digest, planets::conjunctions(year, planet).unwrap_or_default())
+    fields::fed_conjunctions(
+        digest,
+        planets::conjunctions(year, planet).unwrap_or_default(),
+    )
 }
 
 // Every planet's conjunctions of the year.

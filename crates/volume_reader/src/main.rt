@@ -1,8 +1,8 @@
 // Reads a volume from standard input and prints its first and its last year.
 #![tactic(auto)]
 
-use refusal::Refusal;
 use blocks::BLOCK;
+use refusal::Refusal;
 use std::io;
 use std::io::Read;
 use volumes::reader::Reader;

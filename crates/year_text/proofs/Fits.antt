@@ -1,5 +1,6 @@
 -- The printer's text fits its buffer; what is no year has the text of any other that is none; and when a line is settled.
 -- Assumes nothing.
+use Rattle.calendar.specs.declared.YearHead.{YearHead}
 use Rattle.std.specs.Prelude.{Result, Ok, Err}
 use Rattle.refusal.specs.declared.Refusal.{Refusal}
 use mathlib.Core.Path.{◌≡◌, refl, sym, ap, ◌∙◌}

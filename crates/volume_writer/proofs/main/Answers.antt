@@ -5,5 +5,5 @@ use Rattle.volume_writer.proofs.main.Goals as goal
 pub write_blocks-requires : goal.write_blocks-requires
 write_blocks-requires c =
     let r = c.read_span-reader.result in
-    let s = span_of r.first.year r.last.year c.in-Years.n (sym c.in-Years.ensures) in
+    let s = span_of r.first.year r.last.year c.in-Ok.n (sym c.in-Ok.ensures) in
     (s.0.least, omega (arith, s.0.order, s.0.most, s.1))
