@@ -1,7 +1,7 @@
 -- Each answer's number, 0 where it is answered, and its values, all zero where it is refused (01, "Numbers returned"). The side's zero is
 -- "at the node".
 -- Assumes nothing.
-use Rattle.std.specs.Prelude.{false, ℕ, pos}
+use Rattle.std.specs.Prelude.{false, pos}
 use Rattle.moon.specs.declared.phases.Phase.{Phase}
 use Rattle.moon.specs.declared.phases.Phases.{Phases}
 use Rattle.node.specs.declared.Distance.{Distance}

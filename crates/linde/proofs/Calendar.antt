@@ -1,12 +1,11 @@
 -- What is promised of the Linde: the laws of any calendar, at its constants, and its numbers as 002 prints them.
 -- Assumes nothing.
-use Rattle.std.specs.Prelude.{Ok, Err}
+use Rattle.std.specs.Prelude.{Ok}
 use mathlib.Core.Path.{◌≡◌, refl}
 use mathlib.Core.Logic.{◌⊎◌}
 use Prim.Native.Nat.{ℕ, ◌+◌, ◌*◌, ◌<◌}
 use lib.IntN.{ℤ}
 use Rattle.reckoning.specs.Means.{new_moon}
-use Rattle.refusal.specs.declared.Refusal.{Refusal}
 use Rattle.lunisolar.specs.Dates.{day_of, day_of_date, date_of_day}
 use Rattle.lunisolar.specs.declared.dates.Date.{Date}
 use Rattle.lunisolar.proofs.Days as dates

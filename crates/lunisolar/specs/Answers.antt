@@ -1,6 +1,5 @@
 -- Each answer's number, 0 where it is answered, and its values, all zero where it is refused (01, "Numbers returned").
 -- Assumes nothing.
-use Rattle.std.specs.Prelude.{ℕ}
 use Rattle.lunisolar.specs.declared.dates.Day.{Day}
 use Rattle.lunisolar.specs.declared.dates.Date.{Date}
 

@@ -1,6 +1,6 @@
 -- Months carried by signed counts (01, "Walks"): the carry of any calendar of a round, at its constants.
 -- Assumes nothing.
-use Rattle.std.specs.Prelude.{Result, Ok, Err, Bool, List, ℕ, ℤ}
+use Rattle.std.specs.Prelude.{Result, Bool, List, ℕ, ℤ}
 use Rattle.refusal.specs.declared.Refusal.{Refusal}
 use Rattle.lunisolar.specs.declared.Constants.{Constants}
 use Rattle.walking.specs.Walk.{Calendar, carry}

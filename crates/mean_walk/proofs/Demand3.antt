@@ -1,10 +1,5 @@
 -- Demand 3 of any calendar, once over its constants.
 -- Assumes nothing.
-use Rattle.std.specs.Prelude.{Ok, Err}
-use mathlib.Core.Path.{◌≡◌}
-use Prim.Native.Nat.{ℕ}
-use native.Mathlib.Omega.{arith}
-use Rattle.refusal.specs.declared.Refusal.{Refusal}
 use Rattle.lunisolar.specs.declared.Constants.{Constants}
 use Rattle.walking.proofs.Demand.{Demand, demand}
 use Rattle.mean_calendar.specs.Carries.{months_of}

@@ -1,14 +1,12 @@
 -- Demand 3 at the Xinghe: for any genuine month row and any list of signed carries, refused ones included, the walk holds the row worked out from the
 -- origin for the first month plus the sum of the answered counts; and the treatise's monthly addition.
 -- Assumes nothing.
-use Rattle.std.specs.Prelude.{Ok, Err}
+use Rattle.std.specs.Prelude.{Ok}
 use mathlib.Core.Path.{◌≡◌, ◌∙◌, sym, ap}
 use Prim.Native.Nat.{ℕ, suc, ◌+◌, ◌<◌}
-use native.Mathlib.Omega.{arith}
 use native.Mathlib.Numerals.{add-one}
 use borrow.Author.Tests.{lt-ltb}
 use lib.IntN.{pos}
-use Rattle.refusal.specs.declared.Refusal.{Refusal}
 use Rattle.walking.specs.Walk.{Genuine}
 use Rattle.walking.proofs.Demand.{Demand, demand, tested}
 use Rattle.units.specs.Xinghe.{round_months}

@@ -1,7 +1,7 @@
 -- Walking and direct working are one thing, as a program's answers say it: demand 3 over any lawful calendar of a round, whatever a walk ends with,
 -- every row and every list of counts.
 -- Assumes nothing.
-use Rattle.std.specs.Prelude.{Result, Ok, Err}
+use Rattle.std.specs.Prelude.{Ok, Err}
 use Rattle.refusal.specs.declared.Refusal.{Refusal}
 use Rattle.std.proofs.Common.{◌≡◌, ℕ, Bool, true, false, ◌↔◌, List, ℤ, refl, arith}
 use Rattle.reckoning.specs.Search.{pick}

@@ -25,7 +25,6 @@ use Rattle.walking.proofs.Bits.{bit_most}
 use Rattle.walking.proofs.HandedIn as handed
 use Rattle.mean_calendar.specs.Heads as heads
 use Rattle.mean_calendar.specs.Months as months
-use Rattle.mean_calendar.specs.Answers as mean
 use Rattle.mean_calendar.proofs.Refusals as any-calendar
 use Rattle.zhengguang.specs.Zhengguang.{zhengguang, round_months}
 use Rattle.zhengguang.specs.Nodes.{nodes_for, nodes_at}

@@ -3,7 +3,7 @@ use Rattle.std.proofs.Common.{rules}
 use Rattle.refusal.proofs.Values.{unwrapped}
 use native.Mathlib.Omega.{arith}
 use Prim.Native.Nat.{◌≤◌}
-use mathlib.Core.Path.{◌≡◌, sym, ap, ◌∙◌}
+use mathlib.Core.Path.{◌≡◌, sym, ap}
 use lib.Seq.{length-take-le}
 use Rattle.calendar.specs.Heads.{year_head}
 use Rattle.calendar.specs.Answers.{zero_head}

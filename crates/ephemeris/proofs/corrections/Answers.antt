@@ -1,11 +1,7 @@
-use Rattle.std.specs.Prelude.{Ok}
 use native.Mathlib.Omega.{arith}
-use mathlib.Core.Path.{◌≡◌, ◌∙◌, sym}
-use Rattle.lunisolar.specs.Calendars.{lunation_at}
 use Rattle.units.specs.Xinghe.{xinghe}
 use Rattle.lunisolar.proofs.Rounds.{lunation_in_round}
 use Rattle.units.proofs.Sound.{sound}
-use Rattle.ephemeris.specs.Jobs.{corrections_for}
 use Rattle.ephemeris.proofs.corrections.Goals as goal
 
 pub corrections_of-requires : goal.corrections_of-requires

@@ -1,10 +1,6 @@
-use Rattle.std.specs.Prelude.{Ok}
 use native.Mathlib.Omega.{arith}
-use mathlib.Core.Path.{◌≡◌, ◌∙◌, sym}
-use Rattle.lunisolar.specs.Calendars.{year_at}
 use Rattle.lunisolar.proofs.Laws.{year_found}
 use Rattle.units.specs.Xinghe.{xinghe}
-use Rattle.ephemeris.specs.Jobs.{point_for}
 use Rattle.ephemeris.proofs.cut_point.Goals as goal
 
 pub point_in-requires : goal.point_in-requires

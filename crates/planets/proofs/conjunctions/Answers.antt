@@ -1,10 +1,6 @@
-use Rattle.std.specs.Prelude.{Ok}
 use native.Mathlib.Omega.{arith}
-use mathlib.Core.Path.{◌≡◌, ◌∙◌, sym}
-use Rattle.lunisolar.specs.Calendars.{year_at}
 use Rattle.lunisolar.proofs.Laws.{year_found}
 use Rattle.units.specs.Xinghe.{xinghe}
-use Rattle.planets.specs.Jobs.{conjunctions_for}
 use Rattle.planets.proofs.conjunctions.Goals as goal
 
 pub conjunctions_in-requires : goal.conjunctions_in-requires

@@ -4,7 +4,6 @@ use mathlib.Core.Path.{◌≡◌, ◌∙◌, sym}
 use Prim.Native.Nat.{◌-◌, ◌≤◌}
 use Rattle.lunisolar.specs.Calendars.{Stands, lunation_at}
 use Rattle.lunisolar.proofs.Rounds.{found, in_round_lem, stands_year}
-use Rattle.mean_calendar.specs.Months.{month_for}
 use Rattle.mean_calendar.proofs.months.month_for.Goals as goal
 
 -- the month that the match binds, and where it stands

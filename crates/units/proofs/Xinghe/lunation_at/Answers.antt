@@ -1,11 +1,7 @@
-use Rattle.std.specs.Prelude.{Ok}
 use native.Mathlib.Omega.{arith}
-use mathlib.Core.Path.{◌≡◌, refl, sym, ◌∙◌}
 use Prim.Native.Nat.{◌<◌}
-use Rattle.lunisolar.specs.Calendars.{year_at, lunation_for}
 use Rattle.lunisolar.proofs.Laws.{year_found}
 use Rattle.units.specs.Xinghe.{xinghe}
-use Rattle.units.proofs.Sound.{sound}
 use Rattle.units.proofs.Xinghe.lunation_at.Goals as goal
 
 in_round_lem : (a : goal.In_ok-y) → a.in_ok-y.y < 1048576

@@ -4,7 +4,6 @@ use Prim.Native.Nat.{◌-◌, ◌*◌, ◌≤◌}
 use Rattle.reckoning.specs.Chapters.{chapter_before, chapter_rest}
 use Rattle.units.specs.Xinghe.{chapter_months, chapter_years}
 use Rattle.units.specs.Chapter.{leap_remainder}
-use Rattle.units.proofs.Sound.{sound}
 use Rattle.units.proofs.Table.{chapter_stands, by_chapter_near}
 use Rattle.units.proofs.chapter.months_before.Goals as goal
 

@@ -1,4 +1,3 @@
-use Rattle.units.proofs.Sound.{sound}
 use Rattle.units.proofs.chapter.year_months.Goals as goal
 
 pub months_near-requires : goal.months_near-requires

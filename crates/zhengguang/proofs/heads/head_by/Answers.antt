@@ -1,10 +1,7 @@
-use Rattle.std.specs.Prelude.{Ok}
 use native.Mathlib.Omega.{arith}
-use mathlib.Core.Path.{◌≡◌, refl, sym, ◌∙◌}
-use Rattle.mean_calendar.specs.Heads as heads
+use mathlib.Core.Path.{sym, ◌∙◌}
 use Rattle.mean_calendar.proofs.Found.{HeadFound, head_found}
 use Rattle.zhengguang.specs.Zhengguang.{zhengguang}
-use Rattle.zhengguang.specs.Rows.{head_by}
 use Rattle.zhengguang.proofs.heads.head_by.Goals as goal
 
 -- whose the head is
