@@ -1,4 +1,3 @@
-pub mod Zeros
 pub mod Sums
 pub mod Blocks
 pub mod Values

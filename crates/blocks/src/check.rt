@@ -25,13 +25,11 @@ fn weigh(past: u16, bytes: &[u8]) -> u32
     let mut sum: u32 = 0;
     // one more than the index, in sixteen bits of its own
     let mut weight: u16 = 1;
-    let mut i = 0;
-    while i < bytes.len() {
-        let own = term(weight, bytes[i]) as u32;
-        let more = term(past, bytes[i]) as u32;
+    for byte in bytes {
+        let own = term(weight, *byte) as u32;
+        let more = term(past, *byte) as u32;
         sum += own + more;
         weight += 1;
-        i += 1;
     }
     sum
 }

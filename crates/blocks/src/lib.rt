@@ -74,12 +74,10 @@ fn put_records(out: &mut [u8], year: u64, head: Result<YearHead, Refusal>, n: us
     ensures { Wrote out.old out.new 8 (8 + 16 * n) (records year n) }
 {
     let mut elements = year_list::first_elements(head);
-    let mut place = 0;
-    while place < n {
+    for place in 0..n {
         let row = year_list::row_with(year, head, place, elements);
         put_record(out, RECORDS + RECORD * place, row);
         elements = elements.next();
-        place += 1;
     }
 }
 

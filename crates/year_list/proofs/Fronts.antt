@@ -54,9 +54,6 @@ unfolding rows_from
 rows_length n p zero = refl
 rows_length n p (suc k) = ap suc (rows_length n (suc p) k)
 
-pub as_long : (n k : ℕ) (rows : List MonthRow) → k ≤ length rows → length (front n k rows) ≡ length rows
-as_long n k rows h = omega (arith, length-append (rows_from n 0 k) (drop k rows), rows_length n 0 k, length-drop k rows)
-
 -- one row more at the end
 rows_more : (n p k : ℕ) → rows_from n p (suc k) ≡ rows_from n p k ++ (row_at n (p + k) ∷ [])
 unfolding rows_from

@@ -1,11 +1,6 @@
+use Rattle.std.proofs.Common.{◌≡◌, length, take}
 use Rattle.blocks.specs.Bytes.{same}
-use lib.ListN.{length, take}
-use mathlib.Core.Path.{◌≡◌}
-use Prim.Native.Nat.{◌-◌, ◌≤◌}
 use Rattle.blocks.proofs.bytes.same_bytes.Given as goal
 
-abbrev pub invariant-loop-i : goal.invariant-loop-i
-invariant-loop-i l = (l.i ≤ length l.a) × (l.equal ≡ same (take l.i l.a) (take l.i l.b))
-
-abbrev pub decreases-loop-i : goal.decreases-loop-i
-decreases-loop-i l = length l.a - l.i
+abbrev pub invariant-loop-x : goal.invariant-loop-x
+invariant-loop-x l = l.equal ≡ same (take (length l.yielded) l.a) (take (length l.yielded) l.b)
