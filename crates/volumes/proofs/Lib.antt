@@ -1,3 +1,4 @@
+pub mod Chunks
 pub mod Runs
 pub mod Parts
 pub mod Genuine

@@ -78,14 +78,9 @@ impl Reader {
 pub fn read(volume: &[u8]) -> Result<(u64, u64), Refusal>
     ensures { result ≡ read_answer volume.now }
 {
-    let n = volume.len() / BLOCK;
     let mut reader = Reader::new();
-    let mut i = 0;
-    while i < n {
-        let at = BLOCK * i;
-        let end = at + BLOCK;
-        reader = reader.block(&volume[at..end]);
-        i += 1;
+    for part in volume.chunks_exact(BLOCK) {
+        reader = reader.block(part);
     }
     reader.finish(volume.len() % BLOCK)
 }

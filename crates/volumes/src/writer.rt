@@ -44,12 +44,11 @@ fn put_blocks(out: &mut [u8], first: u64, n: usize)
     ensures { out.new ≡ blocks first n ++ drop (512 * n) out.old }
 {
     let start = totals::before(first);
-    let mut i = 0;
-    while i < n {
+    // By index: of a slice that `chunks_exact_mut` went through a proof knows no element afterwards, only the length.
+    for i in 0..n {
         let at = BLOCK * i;
         let end = at + BLOCK;
         crate::put_block(&mut out[at..end], first, start, first + i as u64);
-        i += 1;
     }
 }
 

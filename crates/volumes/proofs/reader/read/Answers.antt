@@ -1,25 +1,24 @@
-use native.Mathlib.Omega.{arith}
-use mathlib.Core.Path.{◌≡◌, sym, ◌∙◌}
-use Prim.Native.Nat.{◌+◌, ◌-◌, ◌*◌, ◌/◌}
-use native.Mathlib.Numerals.{add-one}
-use lib.ListN.{length}
+use Rattle.std.proofs.Common.{length, sym, ◌∙◌, add-one}
+use Rattle.std.proofs.lemmas.List.{length_push}
 use Rattle.volumes.specs.Stream.{reader_after}
+use Rattle.volumes.proofs.Chunks.{none_given, next_given, all_given}
 use Rattle.volumes.proofs.Genuine.{reads_on, reads_all}
 use Rattle.volumes.proofs.reader.read.Goals as goal
 
-pub loop-i-init : goal.loop-i-init
+pub loop-part-init : goal.loop-part-init
 unfolding reader_after
-loop-i-init c = (omega arith, c.new-reader.ensures)
+loop-part-init c = (none_given c.args.volume.now c.into_iter-part-iterator.result (cc) (cc), c.new-reader.ensures)
 
-pub loop-i-preserved : goal.loop-i-preserved
-loop-i-preserved c =
-    let i = c.loop-i.i in
+pub loop-part-preserved : goal.loop-part-preserved
+loop-part-preserved c =
     let v = c.args.volume.now in
-    let k : 512 * i + 512 - 512 * i ≡ 512 = omega arith in
-    (omega arith, rw k at c.block-reader.ensures ∙ rw (c.loop-i.invariant.1, add-one i) (reads_on v i))
+    let n = length c.loop-part.yielded in
+    let part = c.in-Some.part in
+    let now = next_given v n c.loop-part.part-iterator c.loop-part.invariant.0 c.next.result c.next.new.self c.next.ensures.steps part c.in-Some.is in
+    rw (length_push c.loop-part.yielded part) (now.1, c.block-reader.ensures ∙ rw (c.loop-part.invariant.1, now.0, add-one n) (reads_on v n))
 
 pub returns : goal.returns
 returns c =
-    let x = c.args in
-    let all : c.loop-i.i ≡ length x.volume.now / 512 = omega arith in
-    c.finish.ensures ∙ rw (c.loop-i.invariant.1, all) (sym (reads_all x.volume.now))
+    let v = c.args.volume.now in
+    let all = all_given v (length c.loop-part.yielded) c.loop-part.part-iterator c.loop-part.invariant.0 c.next.result c.next.new.self c.next.ensures.steps c.in-None.is in
+    c.finish.ensures ∙ rw (c.loop-part.invariant.1, all) (sym (reads_all v))
