@@ -43,7 +43,7 @@ pub date_day_date : (n p i d : ℕ) → day_of_date linde n p i ≡ Ok (day_of d
 date_day_date = dates.date_day_date linde sound
 
 -- DEMAND 3, over its months and all lists of counts
-pub demand_3 : Demand (months_of linde) (walked linde)
+pub demand_3 : Demand (months_of linde)
 demand_3 = any-walk.demand_3 linde
 
 -- A CARRY STAYS WITHIN THE MONTHS OF ITS YEARS

@@ -17,9 +17,9 @@ use lunisolar::dates::{Date, Day};
 use lunisolar::{Calendar, Constants};
 use mean_calendar::carries::MonthFields;
 use mean_calendar::{MeanHead, MeanMonth, MeanPoint};
-use mean_walk::MeanWalk;
 use mean_year::{MeanYear, PLACES};
 use refusal::Refusal;
+use walking::Walked;
 
 #[derive(Clone, Copy)]
 pub struct Linde;
@@ -135,14 +135,14 @@ impl Linde {
         Linde::carry(month, -1)
     }
 
-    pub fn walk_fields(start: &MonthFields, counts: &[i64]) -> Result<MeanWalk, Refusal>
+    pub fn walk_fields(start: &MonthFields, counts: &[i64]) -> Result<Walked<MeanMonth>, Refusal>
         ensures { result ≡ walk_answer_fields linde start.now counts.now }
     {
         let genuine = Linde::is_genuine(start);
         mean_walk::walk_tested(Linde::calendar(), genuine, start, counts)
     }
 
-    pub fn walk(start: MeanMonth, counts: &[i64]) -> Result<MeanWalk, Refusal>
+    pub fn walk(start: MeanMonth, counts: &[i64]) -> Result<Walked<MeanMonth>, Refusal>
         ensures { result ≡ walk_answer linde start counts.now }
     {
         let fields = start.fields();

@@ -7,5 +7,5 @@ use Rattle.mean_calendar.proofs.Lawful.{lawful}
 use Rattle.mean_walk.specs.Walked.{walked}
 
 -- WALKING AND DIRECT WORKING ARE ONE THING: for every month and every list of counts
-pub demand_3 : (k : Constants) → Demand (months_of k) (walked k)
-demand_3 k = demand (months_of k) (lawful k) (walked k)
+pub demand_3 : (k : Constants) → Demand (months_of k)
+demand_3 k = demand (months_of k) (lawful k)

@@ -9,14 +9,7 @@ use lunisolar::Calendar;
 use mean_calendar::MeanMonth;
 use mean_calendar::carries::MonthFields;
 use refusal::Refusal;
-
-// Where a walk ends, the sum of the answered counts, and how many were answered.
-#[derive(Clone, Copy, Default)]
-pub struct MeanWalk {
-    pub month: MeanMonth,
-    pub sum: i64,
-    pub answered: usize,
-}
+use walking::Walked;
 
 // A walk from a month handed in as numbers that were tested. The number of the month alone is moved, and one month worked out at the end: by demand 3
 // that is the walk which carries the month by each count.
@@ -25,15 +18,15 @@ pub fn walk_tested(
     genuine: bool,
     start: &MonthFields,
     counts: &[i64],
-) -> Result<MeanWalk, Refusal>
+) -> Result<Walked<MeanMonth>, Refusal>
     requires { genuine ≡ genuine_fields k.constants start.now }
     ensures { result ≡ walk_answer_fields k.constants start.now counts.now }
 {
     if genuine {
         let end = walking::arrive(k.constants.lunations, start[0], counts);
-        let month = mean_calendar::months::month_of(k, end.month);
-        Ok(MeanWalk {
-            month,
+        let row = mean_calendar::months::month_of(k, end.month);
+        Ok(Walked {
+            row,
             sum: end.sum,
             answered: end.answered,
         })

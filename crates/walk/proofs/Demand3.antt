@@ -19,8 +19,8 @@ use Rattle.calendar.proofs.Months.{moon_of, monthly}
 use Rattle.walk.specs.Walked.{walked}
 
 -- WALKING AND DIRECT WORKING ARE ONE THING: for every row and every list of counts
-pub demand_3 : Demand months walked
-demand_3 = demand months lawful walked
+pub demand_3 : Demand months
+demand_3 = demand months lawful
 
 -- A carry by 1 of every genuine row that has a next is answered with the next month's row, whose day and remainder are those that the treatise's
 -- monthly addition gives

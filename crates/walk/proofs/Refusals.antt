@@ -1,6 +1,6 @@
 -- The number that a walk returns, as an equation on all inputs, and zero values with its refusal (01, "Numbers returned").
 -- Assumes nothing.
-use Rattle.walk.specs.declared.Walked.{Walked}
+use Rattle.walking.specs.declared.Walked.{Walked}
 use Rattle.std.specs.Prelude.{Result, Ok, Err}
 use Rattle.refusal.specs.Numbers.{answer_number}
 use Rattle.std.specs.Result.{result_unwrap_or}
@@ -19,6 +19,6 @@ pub walk_numbers : (r : MonthRow) (cs : List ℤ) → answer_number (walk_answer
 walk_numbers r cs = through answer_number (genuine months r) (Ok (walked r cs)) (Err Refusal.Row)
 
 -- where the number is not 0, the values are all zero
-pub walk_zero : (a : Result Walked Refusal) → ¬ (answer_number a ≡ 0) → result_unwrap_or a zero_walk ≡ zero_walk
+pub walk_zero : (a : Result (Walked MonthRow) Refusal) → ¬ (answer_number a ≡ 0) → result_unwrap_or a zero_walk ≡ zero_walk
 walk_zero (Ok w) h = absurd (h refl)
 walk_zero (Err e) h = refl

@@ -8,18 +8,11 @@ use calendar::MonthRow;
 use calendar::rows::RowFields;
 use refusal::Refusal;
 use units::Xinghe;
-
-// Where a walk ends, the sum of the answered counts, and how many were answered.
-#[derive(Clone, Copy, Default)]
-pub struct Walked {
-    pub row: MonthRow,
-    pub sum: i64,
-    pub answered: usize,
-}
+use walking::Walked;
 
 // A walk from a row handed in as numbers. That row is tested, then the month alone is moved, and one row worked out at the end: by demand 3 that
 // is the walk which carries the row by each count.
-pub fn walk_fields(start: &RowFields, counts: &[i64]) -> Result<Walked, Refusal>
+pub fn walk_fields(start: &RowFields, counts: &[i64]) -> Result<Walked<MonthRow>, Refusal>
     ensures { result ≡ walk_answer_fields start.now counts.now }
 {
     if calendar::carries::is_genuine(start) {
@@ -35,7 +28,7 @@ pub fn walk_fields(start: &RowFields, counts: &[i64]) -> Result<Walked, Refusal>
     }
 }
 
-pub fn walk(start: MonthRow, counts: &[i64]) -> Result<Walked, Refusal>
+pub fn walk(start: MonthRow, counts: &[i64]) -> Result<Walked<MonthRow>, Refusal>
     ensures { result ≡ walk_answer start counts.now }
 {
     let fields = start.fields();

@@ -1,7 +1,8 @@
 -- Where a walk by months comes to is where the walk comes to that carries the row by each count.
 -- Assumes nothing.
-use Rattle.std.proofs.Common.{◌≡◌, ℕ, ◌<◌, List, ℤ, pos, ◌-ℤ◌, sym, ap, ◌∙◌}
-use Rattle.walking.specs.Walk.{Calendar, walk, total, number}
+use Rattle.std.proofs.Common.{◌≡◌, ℕ, ◌<◌, List, ℤ, pos, ◌-ℤ◌, refl, sym, ap, ◌∙◌}
+use Rattle.walking.specs.Walk.{Calendar, walk, total, number, walked}
+use Rattle.walking.specs.declared.Walked.{Walked}
 use Rattle.walking.specs.Paper.{final_month, arrival_of}
 use Rattle.walking.proofs.Walks.{Lawful, row_genuine, kept}
 use Rattle.walking.proofs.Sums.{sum_is}
@@ -16,3 +17,7 @@ module _ {R : Type 0} (C : Calendar R) (L : Lawful C) (m : ℕ) (h : m < C.size)
 
   pub arrived_number : (arrival_of C.size m cs).answered ≡ number C (C.row m) cs
   arrived_number = sym (kept C L cs m h).hits
+
+  -- all three together
+  pub arrived : ◌≡◌ {A = Walked R} (let a = arrival_of C.size m cs in record { row = C.row a.month; sum = a.sum; answered = a.answered }) (walked C (C.row m) cs)
+  arrived = rw (arrived_row, arrived_sum, arrived_number) refl

@@ -2,8 +2,9 @@
 -- Assumes nothing.
 use Rattle.std.specs.Prelude.{Result, Ok, Err, ℕ, Bool, cond, ◌&&◌, List, ℤ, nat_eq, nat_lt, slice_index}
 use Rattle.refusal.specs.declared.Refusal.{Refusal}
-use Rattle.reckoning.specs.Search.{all}
-use Rattle.walking.specs.Walk.{Calendar, carry_from}
+use Rattle.reckoning.specs.Search.{pick, all}
+use Rattle.walking.specs.Walk.{Calendar, carry_from, walked}
+use Rattle.walking.specs.declared.Walked.{Walked}
 
 -- yes is 1 and no is 0
 abbrev pub bit_of : Bool → ℕ
@@ -25,6 +26,10 @@ module _ {R : Type 0} (C : Calendar R) (n : ℕ) (fields : R → List ℕ) where
 
   abbrev pub carried_by : List ℕ → ℤ → Result R Refusal
   carried_by f c = carry_from C (genuine_by f) (named_month f) c
+
+  -- and its walk: from the row that they are, and refused under 4 where they are no genuine row's
+  abbrev pub walked_by : List ℕ → List ℤ → Result (Walked R) Refusal
+  walked_by f cs = pick (genuine_by f) (Ok (walked C (C.row (named_month f)) cs)) (Err Refusal.Row)
 
 -- the row of the month on which a carry lands; refused as the carry is
 abbrev pub row_on : {R : Type 0} → Calendar R → Result ℕ Refusal → Result R Refusal

@@ -3,6 +3,7 @@
 use Rattle.std.specs.Prelude.{Result, Ok, Err, ◌≡◌, ℕ, ◌+◌, ◌<◌, Bool, false, ◌&&◌, List, [], ◌∷◌, ℤ, pos, negsuc, ◌+ℤ◌, nat_lt, unsigned_abs}
 use Rattle.refusal.specs.declared.Refusal.{Refusal}
 use Rattle.reckoning.specs.Search.{pick}
+use Rattle.walking.specs.declared.Walked.{Walked}
 
 -- a calendar of a round: its size, the row of a month, the month that a row names, and a test of two rows for being the same
 pub record Calendar (R : Type 0) : Type 0 where
@@ -68,3 +69,12 @@ module _ {R : Type 0} where
   unfoldable pub number : Calendar R → R → List ℤ → ℕ
   number C r [] = 0
   number C r (c ∷ cs) = one (carry C r c) + number C (stand r (carry C r c)) cs
+
+  -- the walk's last row, sum and number together; carry by carry, each is handed the row that the last answered one gave, at first the row that the
+  -- walk starts from
+  abbrev pub walked : Calendar R → R → List ℤ → Walked R
+  walked C r cs = record { row = walk C r cs; sum = total C r cs; answered = number C r cs }
+
+  -- a walk from a row that is not genuine is refused under 4
+  abbrev pub walk_answer : Calendar R → R → List ℤ → Result (Walked R) Refusal
+  walk_answer C r cs = pick (genuine C r) (Ok (walked C r cs)) (Err Refusal.Row)

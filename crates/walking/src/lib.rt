@@ -116,3 +116,11 @@ pub fn arrive(size: u64, from: u64, counts: &[i64]) -> Arrival
         answered: end.answered,
     }
 }
+
+// Where a walk of rows ends, the sum of the answered counts, and how many were answered.
+#[derive(Clone, Copy, Default)]
+pub struct Walked<R> {
+    pub row: R,
+    pub sum: i64,
+    pub answered: usize,
+}

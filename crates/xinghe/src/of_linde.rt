@@ -83,11 +83,11 @@ pub extern "C" fn linde_walk(
     out: &mut MonthFields,
     totals: &mut [u64; 3],
 ) -> u64
-    ensures { (result ≡ answer_number (walk_answer_fields linde row.now counts.now)) × (out.new ≡ month_fields (result_unwrap_or (walk_answer_fields linde row.now counts.now) zero_walk).month) × (totals.new ≡ totals_fields (result_unwrap_or (walk_answer_fields linde row.now counts.now) zero_walk).sum (result_unwrap_or (walk_answer_fields linde row.now counts.now) zero_walk).answered) }
+    ensures { (result ≡ answer_number (walk_answer_fields linde row.now counts.now)) × (out.new ≡ month_fields (result_unwrap_or (walk_answer_fields linde row.now counts.now) zero_walk).row) × (totals.new ≡ totals_fields (result_unwrap_or (walk_answer_fields linde row.now counts.now) zero_walk).sum (result_unwrap_or (walk_answer_fields linde row.now counts.now) zero_walk).answered) }
 {
     let answer = Linde::walk_fields(row, counts);
     let end = answer.unwrap_or_default();
-    let last = end.month;
+    let last = end.row;
     *out = last.fields();
     *totals = fields::walks::totals_fields(end.sum, end.answered);
     answer.number()

@@ -49,8 +49,8 @@ pub date_day_date : (n p i d : ℕ) → day_of_date zhengguang n p i ≡ Ok (day
 date_day_date = dates.date_day_date zhengguang sound
 
 -- DEMAND 3, over its rows and all lists of counts
-pub demand_3 : Demand rows walked
-demand_3 = demand rows lawful walked
+pub demand_3 : Demand rows
+demand_3 = demand rows lawful
 
 -- a month's row is the row at its year and place
 in_months : (m : ℕ) → m < round_months → ((row_of m).mean.lunation < round_months) × (month_row (row_of m).mean.year (row_of m).mean.place ≡ Ok (row_of m))

@@ -1,6 +1,6 @@
 -- The numbers returned (01, "Numbers returned"), as equations on all inputs, the lowest that applies first; and zero values with each refusal.
 -- Assumes nothing.
-use Rattle.zhengguang.specs.declared.walks.ZhengguangWalk.{ZhengguangWalk}
+use Rattle.walking.specs.declared.Walked.{Walked}
 use Rattle.zhengguang.specs.declared.MonthNodes.{MonthNodes}
 use Rattle.zhengguang.specs.declared.ZhengguangHead.{ZhengguangHead}
 use Rattle.mean_calendar.specs.declared.MeanMonth.{MeanMonth}
@@ -93,6 +93,6 @@ pub nodes_zero : (a : Result MonthNodes Refusal) → ¬ (answer_number a ≡ 0) 
 nodes_zero (Ok x) h = absurd (h refl)
 nodes_zero (Err e) h = refl
 
-pub walk_zero : (a : Result ZhengguangWalk Refusal) → ¬ (answer_number a ≡ 0) → result_unwrap_or a zero_walk ≡ zero_walk
+pub walk_zero : (a : Result (Walked ZhengguangRow) Refusal) → ¬ (answer_number a ≡ 0) → result_unwrap_or a zero_walk ≡ zero_walk
 walk_zero (Ok w) h = absurd (h refl)
 walk_zero (Err e) h = refl

@@ -6,23 +6,16 @@ use crate::carries::is_genuine;
 use crate::rows::{RowFields, row_of};
 use crate::{Zhengguang, ZhengguangRow};
 use refusal::Refusal;
-
-// Where a walk ends, the sum of the answered counts, and how many were answered.
-#[derive(Clone, Copy, Default)]
-pub struct ZhengguangWalk {
-    pub row: ZhengguangRow,
-    pub sum: i64,
-    pub answered: usize,
-}
+use walking::Walked;
 
 // A walk from a row handed in as numbers: they are tested, the month alone is moved, and one row worked out at the end.
-pub fn walk_fields(start: &RowFields, counts: &[i64]) -> Result<ZhengguangWalk, Refusal>
+pub fn walk_fields(start: &RowFields, counts: &[i64]) -> Result<Walked<ZhengguangRow>, Refusal>
     ensures { result ≡ walk_answer_fields start.now counts.now }
 {
     if is_genuine(start) {
         let end = walking::arrive(Zhengguang::MONTHS, start[0], counts);
         let row = row_of(end.month);
-        Ok(ZhengguangWalk {
+        Ok(Walked {
             row,
             sum: end.sum,
             answered: end.answered,
@@ -32,7 +25,7 @@ pub fn walk_fields(start: &RowFields, counts: &[i64]) -> Result<ZhengguangWalk, 
     }
 }
 
-pub fn walk(start: ZhengguangRow, counts: &[i64]) -> Result<ZhengguangWalk, Refusal>
+pub fn walk(start: ZhengguangRow, counts: &[i64]) -> Result<Walked<ZhengguangRow>, Refusal>
     ensures { result ≡ walk_answer start counts.now }
 {
     let fields = start.fields();

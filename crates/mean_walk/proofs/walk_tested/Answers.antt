@@ -7,12 +7,10 @@ use Prim.Native.Nat.{ℕ, ◌<◌}
 use mir.Syntax.{w64}
 use mir.Val.{to_z, of_z}
 use Rattle.lunisolar.proofs.Laws.{lunations_bound}
-use Rattle.walking.specs.Walk.{walk, total, number}
 use Rattle.walking.specs.Fields.{named_month}
-use Rattle.walking.specs.declared.Arrival.{Arrival}
 use Rattle.walking.proofs.Program.{in_round_lem, final_below}
-use Rattle.walking.proofs.Arrivals.{arrived_row, arrived_sum, arrived_number}
-use Rattle.mean_calendar.specs.Months.{month_of}
+use Rattle.walking.proofs.Arrivals.{arrived}
+use Rattle.std.specs.Prelude.{Ok}
 use Rattle.mean_calendar.specs.Carries.{months_of, genuine_fields}
 use Rattle.mean_calendar.proofs.Lawful.{lawful}
 use borrow.Author.Rules.{rules}
@@ -26,19 +24,13 @@ pub arrive-end-requires : goal.arrive-end-requires
 arrive-end-requires c =
     (from c.args.k.constants c.args.start.now c.args.genuine c.requires c.if-genuine.true, omega (arith, lunations_bound c.args.k.constants c.args.k.sound))
 
-pub month_of-month-requires : goal.month_of-month-requires
-month_of-month-requires c = (rw c.arrive-end.ensures (final_below c.args.k.constants.lunations c.args.counts.now (named_month c.args.start.now) (from c.args.k.constants c.args.start.now c.args.genuine c.requires c.if-genuine.true)))
+pub month_of-row-requires : goal.month_of-row-requires
+month_of-row-requires c = (rw c.arrive-end.ensures (final_below c.args.k.constants.lunations c.args.counts.now (named_month c.args.start.now) (from c.args.k.constants c.args.start.now c.args.genuine c.requires c.if-genuine.true)))
 
 pub returns-then-genuine : goal.returns-then-genuine
 returns-then-genuine c =
     let x = c.args in
     let k = x.k.constants in
-    let m : ℕ = named_month x.start.now in
-    let cs = x.counts.now in
-    let e = c.arrive-end.ensures in
     let held : to_z w64 (of_z w64 c.arrive-end.result.sum) ≡ c.arrive-end.result.sum = search rules in
-    let month : c.month_of-month.result ≡ walk (months_of k) (month_of k m) cs =
-    c.month_of-month.ensures ∙ ap (λ (y : Arrival). month_of k y.month) e ∙ arrived_row (months_of k) (lawful k) m (from c.args.k.constants c.args.start.now c.args.genuine c.requires c.if-genuine.true) cs in
-    let sum : c.arrive-end.result.sum ≡ total (months_of k) (month_of k m) cs = ap (λ (y : Arrival). y.sum) e ∙ arrived_sum (months_of k) (lawful k) m (from c.args.k.constants c.args.start.now c.args.genuine c.requires c.if-genuine.true) cs in
-    let hits : c.arrive-end.result.answered ≡ number (months_of k) (month_of k m) cs = ap (λ (y : Arrival). y.answered) e ∙ arrived_number (months_of k) (lawful k) m (from c.args.k.constants c.args.start.now c.args.genuine c.requires c.if-genuine.true) cs in
-    rw (sym c.requires ∙ c.if-genuine.true, held, sum, month, hits) refl
+    rw (sym c.requires ∙ c.if-genuine.true, held, c.month_of-row.ensures, c.arrive-end.ensures)
+    (ap Ok (arrived (months_of k) (lawful k) _ (from k x.start.now x.genuine c.requires c.if-genuine.true) x.counts.now))
