@@ -90,8 +90,7 @@ pub fn signed_of(amount: Amount) -> i64
     requires { amount.size < 4294967296 }
     ensures { result ≡ signed_of amount }
 {
-    let minus = amount.minus;
-    if minus {
+    if amount.minus {
         walking::difference(0, amount.size)
     } else {
         walking::difference(amount.size, 0)

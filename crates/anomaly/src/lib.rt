@@ -51,10 +51,9 @@ fn anomaly_at(instant: u64) -> Anomaly
 {
     let into = instant % (2 * Xinghe::T);
     let carried = DayRemainder { parts: 0 }.carry(into / 2);
-    let rest = carried.remainder;
     Anomaly {
         day: carried.whole + 1,
-        rest,
+        rest: carried.remainder,
         half: into % 2,
     }
 }
@@ -86,10 +85,9 @@ pub fn anomaly_in(into: u32) -> Anomaly
     ensures { result ≡ anomaly_at (2 * into) }
 {
     let carried = DayRemainder { parts: 0 }.carry(into as u64);
-    let rest = carried.remainder;
     Anomaly {
         day: carried.whole + 1,
-        rest,
+        rest: carried.remainder,
         half: 0,
     }
 }
@@ -109,22 +107,19 @@ fn moved_by(day: u64, remainder: DayRemainder, correction: Amount) -> DayCarry
     requires { CorrectionBound day remainder correction }
     ensures { result ≡ moved day remainder correction }
 {
-    let minus = correction.minus;
     let size = correction.size;
-    if minus {
+    if correction.minus {
         let carried = remainder.carry(size);
-        let later = carried.remainder;
         return DayCarry {
             whole: day + carried.whole,
-            remainder: later,
+            remainder: carried.remainder,
         };
     }
     // a day back, and on by what is left of it
     let carried = remainder.carry(Xinghe::N - size);
-    let earlier = carried.remainder;
     DayCarry {
         whole: day + carried.whole - 1,
-        remainder: earlier,
+        remainder: carried.remainder,
     }
 }
 
@@ -137,15 +132,13 @@ fn corrected_at(halves: u64) -> Corrected
     let anomaly = anomaly_at(instant);
     let correction = correction_at(instant);
     let mean = DayRemainder { parts: 0 }.carry(instant / 2);
-    let over = mean.remainder;
-    let moved = moved_by(mean.whole, over, correction);
-    let remainder = moved.remainder;
+    let moved = moved_by(mean.whole, mean.remainder, correction);
     let signed = amounts::signed_of(correction);
     Corrected {
         anomaly,
         correction: signed,
         day: moved.whole,
-        remainder,
+        remainder: moved.remainder,
         half: instant % 2,
     }
 }

@@ -25,12 +25,8 @@ impl MonthRow {
     pub fn fields(self) -> RowFields
         ensures { result ≡ row_fields self }
     {
-        let remainder = self.remainder;
-        let residue = self.residue;
-        let side = self.side;
-        let rest = self.rest;
         let leap = bit(self.leap);
-        let side = side.number();
+        let side = self.side.number();
         [
             self.lunation,
             self.year,
@@ -38,13 +34,13 @@ impl MonthRow {
             self.number,
             leap,
             self.day,
-            remainder.parts,
+            self.remainder.parts,
             self.length,
             self.degrees,
-            residue.parts,
+            self.residue.parts,
             side,
             self.anomaly,
-            rest.parts,
+            self.rest.parts,
         ]
     }
 }
@@ -54,23 +50,19 @@ fn row_named(name: MonthName, lunation: u64, elements: Elements) -> MonthRow
     requires { (lunation < round_months) × (name ≡ name_of xinghe lunation) × (elements ≡ elements_of lunation) }
     ensures { result ≡ row_of lunation }
 {
-    let moon = elements.moon;
-    let remainder = moon.remainder;
     let share = DayShare {
-        whole: moon.day,
+        whole: elements.moon.day,
         rest: DayParts {
-            parts: remainder.parts,
+            parts: elements.moon.remainder.parts,
         },
     };
     // by the same comparison as the addition to the next new moon, so that it is made once
-    let length = moon::length_of(remainder);
+    let length = moon::length_of(elements.moon.remainder);
     let k = Xinghe::constants();
     let month = mean_calendar::months::month_by(k, name, lunation, share, length);
     let distance = elements.passage.distance();
-    let residue = distance.remainder;
     let side = elements.passage.side(lunation);
     let anomaly = anomaly::anomaly_in(elements.into);
-    let rest = anomaly.rest;
     MonthRow {
         lunation,
         year: month.year,
@@ -78,13 +70,13 @@ fn row_named(name: MonthName, lunation: u64, elements: Elements) -> MonthRow
         number: month.number,
         leap: month.leap,
         day: month.day,
-        remainder,
+        remainder: elements.moon.remainder,
         length: month.length,
         degrees: distance.degrees,
-        residue,
+        residue: distance.remainder,
         side,
         anomaly: anomaly.day,
-        rest,
+        rest: anomaly.rest,
     }
 }
 
@@ -94,9 +86,8 @@ fn row_from(y: u64, before: u64, lunation: u64) -> MonthRow
     ensures { result ≡ row_of lunation }
 {
     let elements = elements_of(lunation);
-    let moon = elements.moon;
-    let first = moon.day;
-    let next = first + moon::length_of(moon.remainder);
+    let first = elements.moon.day;
+    let next = first + moon::length_of(elements.moon.remainder);
     let name = lunisolar::naming::name_from(Xinghe::calendar(), y, lunation - before, first, next);
     row_named(name, lunation, elements)
 }

@@ -21,15 +21,13 @@ pub mod walks;
 pub fn head_fields(head: YearHead) -> [u64; 6]
     ensures { result ≡ head_fields head }
 {
-    let solstice = head.solstice;
-    let rest = solstice.remainder;
     [
         head.before,
         head.remainder,
         head.months,
         head.leap,
-        solstice.day,
-        rest.parts,
+        head.solstice.day,
+        head.solstice.remainder.parts,
     ]
 }
 
@@ -48,135 +46,93 @@ pub fn date_fields(date: Date) -> [u64; 3]
 pub fn phases_fields(phases: Phases) -> [u64; 12]
     ensures { result ≡ phases_fields phases }
 {
-    let new = phases.new;
-    let new_rest = new.remainder;
-    let first = phases.first;
-    let first_rest = first.remainder;
-    let full = phases.full;
-    let full_rest = full.remainder;
-    let last = phases.last;
-    let last_rest = last.remainder;
     [
-        new.day,
-        new_rest.parts,
-        new.quarters,
-        first.day,
-        first_rest.parts,
-        first.quarters,
-        full.day,
-        full_rest.parts,
-        full.quarters,
-        last.day,
-        last_rest.parts,
-        last.quarters,
+        phases.new.day,
+        phases.new.remainder.parts,
+        phases.new.quarters,
+        phases.first.day,
+        phases.first.remainder.parts,
+        phases.first.quarters,
+        phases.full.day,
+        phases.full.remainder.parts,
+        phases.full.quarters,
+        phases.last.day,
+        phases.last.remainder.parts,
+        phases.last.quarters,
     ]
 }
 
 pub fn nodes_fields(nodes: Nodes) -> [u64; 15]
     ensures { result ≡ nodes_fields nodes }
 {
-    let new = nodes.new;
-    let new_at = new.distance;
-    let new_rest = new_at.remainder;
-    let new_eclipse = new.eclipse;
-    let new_from = new_eclipse.distance;
-    let new_over = new_from.remainder;
-    let full = nodes.full;
-    let full_at = full.distance;
-    let full_rest = full_at.remainder;
-    let full_eclipse = full.eclipse;
-    let full_from = full_eclipse.distance;
-    let full_over = full_from.remainder;
-    let side = nodes.side;
-    let side = side.number();
-    let new_marked = bit(new_eclipse.marked);
-    let full_marked = bit(full_eclipse.marked);
+    let side = nodes.side.number();
+    let new_marked = bit(nodes.new.eclipse.marked);
+    let full_marked = bit(nodes.full.eclipse.marked);
     [
-        new_at.degrees,
-        new_rest.parts,
+        nodes.new.distance.degrees,
+        nodes.new.distance.remainder.parts,
         side,
         new_marked,
-        new_from.degrees,
-        new_over.parts,
-        new_eclipse.size,
-        full_at.degrees,
-        full_rest.parts,
-        full_at.half,
+        nodes.new.eclipse.distance.degrees,
+        nodes.new.eclipse.distance.remainder.parts,
+        nodes.new.eclipse.size,
+        nodes.full.distance.degrees,
+        nodes.full.distance.remainder.parts,
+        nodes.full.distance.half,
         full_marked,
-        full_from.degrees,
-        full_over.parts,
-        full_from.half,
-        full_eclipse.size,
+        nodes.full.eclipse.distance.degrees,
+        nodes.full.eclipse.distance.remainder.parts,
+        nodes.full.eclipse.distance.half,
+        nodes.full.eclipse.size,
     ]
 }
 
 pub fn corrections_fields(corrections: Corrections) -> [u64; 14]
     ensures { result ≡ corrections_fields corrections }
 {
-    let new = corrections.new;
-    let new_at = new.anomaly;
-    let new_rest = new_at.rest;
-    let new_over = new.remainder;
-    let full = corrections.full;
-    let full_at = full.anomaly;
-    let full_rest = full_at.rest;
-    let full_over = full.remainder;
-    let new_by = anomaly::amounts::sized_of(new.correction);
-    let full_by = anomaly::amounts::sized_of(full.correction);
+    let new_by = anomaly::amounts::sized_of(corrections.new.correction);
+    let full_by = anomaly::amounts::sized_of(corrections.full.correction);
     let new_minus = bit(new_by.minus);
     let full_minus = bit(full_by.minus);
     [
-        new_at.day,
-        new_rest.parts,
+        corrections.new.anomaly.day,
+        corrections.new.anomaly.rest.parts,
         new_minus,
         new_by.size,
-        new.day,
-        new_over.parts,
-        full_at.day,
-        full_rest.parts,
-        full_at.half,
+        corrections.new.day,
+        corrections.new.remainder.parts,
+        corrections.full.anomaly.day,
+        corrections.full.anomaly.rest.parts,
+        corrections.full.anomaly.half,
         full_minus,
         full_by.size,
-        full.day,
-        full_over.parts,
-        full.half,
+        corrections.full.day,
+        corrections.full.remainder.parts,
+        corrections.full.half,
     ]
 }
 
 pub fn point_fields(point: Point) -> [u64; 3]
     ensures { result ≡ point_fields point }
 {
-    let rest = point.remainder;
-    [point.day, rest.parts, point.rest]
+    [point.day, point.remainder.parts, point.rest]
 }
 
 pub fn conjunctions_fields(conjunctions: TwoConjunctions) -> [u64; 10]
     ensures { result ≡ conjunctions_fields conjunctions }
 {
-    let first = conjunctions.first;
-    let first_time = first.time;
-    let first_rest = first_time.remainder;
-    let first_since = first.since;
-    let first_over = first_since.remainder;
-    let first_kind = first.kind;
-    let second = conjunctions.second;
-    let second_time = second.time;
-    let second_rest = second_time.remainder;
-    let second_since = second.since;
-    let second_over = second_since.remainder;
-    let second_kind = second.kind;
-    let first_kind = first_kind.number();
-    let second_kind = second_kind.number();
+    let first_kind = conjunctions.first.kind.number();
+    let second_kind = conjunctions.second.kind.number();
     [
-        first_time.whole,
-        first_rest.parts,
-        first_since.whole,
-        first_over.parts,
+        conjunctions.first.time.whole,
+        conjunctions.first.time.remainder.parts,
+        conjunctions.first.since.whole,
+        conjunctions.first.since.remainder.parts,
         first_kind,
-        second_time.whole,
-        second_rest.parts,
-        second_since.whole,
-        second_over.parts,
+        conjunctions.second.time.whole,
+        conjunctions.second.time.remainder.parts,
+        conjunctions.second.since.whole,
+        conjunctions.second.since.remainder.parts,
         second_kind,
     ]
 }
@@ -186,8 +142,7 @@ pub fn location_fields(answer: Result<NameLocation, Refusal>) -> [u64; 2]
 {
     match answer {
         Ok(location) => {
-            let whose = location.whose;
-            let whose = whose.number();
+            let whose = location.whose.number();
             [whose, location.from as u64]
         }
         Err(_) => [0, 0],

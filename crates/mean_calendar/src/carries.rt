@@ -19,7 +19,6 @@ impl MeanMonth {
     pub fn fields(self) -> MonthFields
         ensures { result ≡ month_fields self }
     {
-        let remainder = self.remainder;
         let leap = bit(self.leap);
         [
             self.lunation,
@@ -28,7 +27,7 @@ impl MeanMonth {
             self.number,
             leap,
             self.day,
-            remainder.parts,
+            self.remainder.parts,
             self.length,
         ]
     }

@@ -14,10 +14,9 @@ fn point_of(k: Calendar, y: u64, cut: u64, index: u64) -> MeanPoint
 {
     let over = (y * cut + index) * k.constants.year;
     let share = over_degree(k, over / cut);
-    let remainder = share.rest;
     MeanPoint {
         day: share.whole,
-        remainder,
+        remainder: share.rest,
         rest: over % cut,
     }
 }

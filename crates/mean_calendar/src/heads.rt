@@ -15,13 +15,12 @@ fn head_of(k: Calendar, y: u64, before: u64) -> MeanHead
 {
     let months = lunisolar::rule::year_months(k, y, before);
     let solstice = over_degree(k, y * k.constants.year);
-    let remainder = solstice.rest;
     MeanHead {
         before,
         months: months.count,
         leap: months.leap,
         solstice: solstice.whole,
-        remainder,
+        remainder: solstice.rest,
     }
 }
 

@@ -26,7 +26,6 @@ pub fn month_by(
     requires { (name ≡ name_of k lunation) × (moon ≡ over_day k (lunation * k.month)) × (length ≡ month_days k lunation) }
     ensures { result ≡ month_of k lunation }
 {
-    let remainder = moon.rest;
     MeanMonth {
         lunation,
         year: name.year,
@@ -34,7 +33,7 @@ pub fn month_by(
         number: name.number,
         leap: name.leap,
         day: moon.whole,
-        remainder,
+        remainder: moon.rest,
         length,
     }
 }

@@ -22,10 +22,9 @@ pub fn new_moon(lunation: u64) -> NewMoon
     ensures { result ≡ new_moon_of lunation }
 {
     let carried = DayRemainder { parts: 0 }.carry(lunation * Xinghe::P);
-    let remainder = carried.remainder;
     NewMoon {
         day: carried.whole,
-        remainder,
+        remainder: carried.remainder,
     }
 }
 

@@ -29,10 +29,9 @@ pub fn phase_at(quarter: u64) -> Phase
 {
     let quarters = quarter * Xinghe::P;
     let carried = DayRemainder { parts: 0 }.carry(quarters / 4);
-    let remainder = carried.remainder;
     Phase {
         day: carried.whole,
-        remainder,
+        remainder: carried.remainder,
         quarters: quarters % 4,
     }
 }

@@ -71,8 +71,7 @@ pub fn label<'a>(day: u64, theirs: &'a [u8], house: &'a [u8]) -> &'a [u8]
     match label_location(day, theirs.len(), house.len()) {
         Ok(location) => {
             let from = location.from;
-            let whose = location.whose;
-            match whose {
+            match location.whose {
                 Whose::Theirs => &theirs[from..from + NAME],
                 Whose::House => &house[from..from + NAME],
             }

@@ -71,10 +71,9 @@ fn distance_of(halves: u64) -> Distance
     ensures { result ≡ distance_of halves }
 {
     let carried = DayRemainder { parts: 0 }.carry(halves / 2);
-    let remainder = carried.remainder;
     Distance {
         degrees: carried.whole,
-        remainder,
+        remainder: carried.remainder,
         half: halves % 2,
     }
 }

@@ -146,8 +146,11 @@ fn shown_of(c: ConjunctionParts) -> Conjunction
 {
     let time = DegreeRemainder { parts: 0 }.carry(c.time);
     let since = DegreeRemainder { parts: 0 }.carry(c.instant);
-    let kind = c.kind;
-    Conjunction { time, since, kind }
+    Conjunction {
+        time,
+        since,
+        kind: c.kind,
+    }
 }
 
 pub fn conjunctions_of(k: Planet, y: u64) -> TwoConjunctions

@@ -20,10 +20,9 @@ pub fn winter_solstice(y: u64) -> Solstice
     ensures { result ≡ solstice_of y }
 {
     let carried = DegreeRemainder { parts: 0 }.carry(y * Xinghe::P);
-    let remainder = carried.remainder;
     Solstice {
         day: carried.whole,
-        remainder,
+        remainder: carried.remainder,
     }
 }
 
@@ -42,10 +41,9 @@ pub fn point_of(y: u64, cut: u64, index: u64) -> Point
 {
     let over = (y * cut + index) * Xinghe::P;
     let carried = DegreeRemainder { parts: 0 }.carry(over / cut);
-    let remainder = carried.remainder;
     Point {
         day: carried.whole,
-        remainder,
+        remainder: carried.remainder,
         rest: over % cut,
     }
 }

@@ -84,12 +84,9 @@ pub fn walk_months(size: u64, from: u64, counts: &[i64]) -> Steps
     let mut month = from;
     let mut answered: usize = 0;
     for count in counts {
-        match reach(size, month, *count) {
-            Some(k) => {
-                month = k;
-                answered += 1;
-            }
-            None => {}
+        if let Some(k) = reach(size, month, *count) {
+            month = k;
+            answered += 1;
         }
     }
     Steps { month, answered }

@@ -167,8 +167,7 @@ pub extern "C" fn xinghe_walk(
 {
     let answer = walk::walk_fields(row, counts);
     let end = answer.unwrap_or_default();
-    let last = end.row;
-    *out = last.fields();
+    *out = end.row.fields();
     *totals = fields::walks::totals_fields(end.sum, end.answered);
     answer.number()
 }

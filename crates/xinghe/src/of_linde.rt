@@ -87,8 +87,7 @@ pub extern "C" fn linde_walk(
 {
     let answer = Linde::walk_fields(row, counts);
     let end = answer.unwrap_or_default();
-    let last = end.row;
-    *out = last.fields();
+    *out = end.row.fields();
     *totals = fields::walks::totals_fields(end.sum, end.answered);
     answer.number()
 }

@@ -96,8 +96,7 @@ pub extern "C" fn zhengguang_walk(
 {
     let answer = zhengguang::walks::walk_fields(row, counts);
     let end = answer.unwrap_or_default();
-    let last = end.row;
-    *out = last.fields();
+    *out = end.row.fields();
     *totals = fields::walks::totals_fields(end.sum, end.answered);
     answer.number()
 }

@@ -24,10 +24,9 @@ fn distance_of(halves: u64) -> NodeDistance
     ensures { result ≡ distance_of halves }
 {
     let share = over_day(Zhengguang::calendar(), halves / 2);
-    let remainder = share.rest;
     NodeDistance {
         degrees: share.whole,
-        remainder,
+        remainder: share.rest,
         half: halves % 2,
     }
 }

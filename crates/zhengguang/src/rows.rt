@@ -18,9 +18,7 @@ impl ZhengguangRow {
     pub fn fields(self) -> RowFields
         ensures { result ≡ row_fields self }
     {
-        let mean = self.mean;
-        let residue = self.residue;
-        let month = mean.fields();
+        let month = self.mean.fields();
         [
             month[0],
             month[1],
@@ -31,7 +29,7 @@ impl ZhengguangRow {
             month[6],
             month[7],
             self.degrees,
-            residue.parts,
+            self.residue.parts,
         ]
     }
 }
@@ -42,11 +40,10 @@ pub fn with_node(mean: MeanMonth) -> ZhengguangRow
     ensures { result ≡ row_by mean }
 {
     let distance = new_moon_distance(mean.lunation);
-    let residue = distance.rest;
     ZhengguangRow {
         mean,
         degrees: distance.whole,
-        residue,
+        residue: distance.rest,
     }
 }
 

@@ -2,7 +2,7 @@
 use Rattle.std.proofs.Common.{get_or, pos, SFits, sym, ◌∙◌, to_z-of_z, w64, rules}
 use Rattle.walking.proofs.Program.{on_month, on_outside, at_end}
 use Rattle.walking.proofs.walk_months.Goals as goal
-use Rattle.walking.proofs.walk_months.Goals.{in-Some, in-None}
+use Rattle.walking.proofs.walk_months.Goals.{in-Some, in_default}
 
 pub loop-count-preserved : goal.loop-count-preserved
 loop-count-preserved c =
@@ -12,9 +12,9 @@ loop-count-preserved c =
       | in-Some w ↦ rw (w.month-is, w.answered-is)
           (on_month c.args.size c.args.from c.args.counts.now c.loop-count.month c.loop-count.answered c.loop-count.count-index c.loop-count.invariant
           w.in-Some.k c.loop-count-test.true (sym w.in-Some.is ∙ reached))
-      | in-None w ↦ rw (w.month-is, w.answered-is)
+      | in_default w ↦ rw (w.month-is, w.answered-is)
           (on_outside c.args.size c.args.from c.args.counts.now c.loop-count.month c.loop-count.answered c.loop-count.count-index c.loop-count.invariant
-          c.loop-count-test.true (sym w.in-None.is ∙ reached))
+          c.loop-count-test.true (sym w.in_default.is ∙ reached))
     ]
 
 pub returns : goal.returns
