@@ -23,7 +23,7 @@ length : (a : goal.After-constants-k) → a.length_of-length.result ≡ month_da
 unfolding new_moon_of length_of
 length a = rw (a.length_of-length.ensures, a.requires.2) (length_is xinghe sound a.args.lunation)
 
-is_month : (a : goal.After-rest-1) → a.month_by-month.result ≡ month_of xinghe a.args.lunation
+is_month : (a : goal.After-result-3-1) → a.month_by-month.result ≡ month_of xinghe a.args.lunation
 is_month a = rw a.constants-k.ensures at a.month_by-month.ensures
 
 pub month_by-month-requires : goal.month_by-month-requires
