@@ -1,3 +1,4 @@
+pub mod Chunks
 pub mod FirstYears
 pub mod Notes
 pub mod Implied

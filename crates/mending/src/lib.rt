@@ -47,14 +47,10 @@ fn implied_first(volume: &[u8], n: usize) -> u64
     requires { length volume.now ≡ 512 * n }
     ensures { (result ≡ pick (any (sound_at volume.now) n) (implied_at volume.now (first_from (sound_at volume.now) 0 n)) 0) × (result < 4294967296) }
 {
-    let mut i = 0;
-    while i < n {
-        let at = BLOCK * i;
-        let end = at + BLOCK;
-        if is_sound(&volume[at..end]) {
-            return implied_by(&volume[at..end], i as u64);
+    for (i, part) in (0..n as u64).zip(volume.chunks_exact(BLOCK)) {
+        if is_sound(part) {
+            return implied_by(part, i);
         }
-        i += 1;
     }
     0
 }
@@ -76,12 +72,8 @@ fn all_imply(volume: &[u8], first: u64, n: usize) -> bool
     ensures { result ≡ all (implies_at volume.now first) n }
 {
     let mut imply = true;
-    let mut i = 0;
-    while i < n {
-        let at = BLOCK * i;
-        let end = at + BLOCK;
-        imply = imply & implies(&volume[at..end], first, i as u64);
-        i += 1;
+    for (i, part) in (0..n as u64).zip(volume.chunks_exact(BLOCK)) {
+        imply = imply & implies(part, first, i);
     }
     imply
 }
@@ -130,13 +122,12 @@ fn mend_blocks(volume: &mut [u8], list: &mut [u64], first: u64, n: usize) -> usi
     ensures { (result ≡ length (differing volume.old first n)) × (volume.new ≡ afresh volume.old first n) × (list.new ≡ differing volume.old first n ++ drop result list.old) }
 {
     let mut count = 0;
-    let mut i = 0;
-    while i < n {
+    // By index: of a slice that `chunks_exact_mut` went through a proof knows no element afterwards, only the length.
+    for i in 0..n {
         let at = BLOCK * i;
         let end = at + BLOCK;
         let right = mend_block(&mut volume[at..end], first, first + i as u64);
         count = note(list, count, i as u64, right);
-        i += 1;
     }
     count
 }
