@@ -21,7 +21,6 @@ pub fn date_of_day(number: u64) -> Result<Date, Refusal>
     }
     let m = Xinghe::month_of_day(number);
     let y = Xinghe::year_of(m);
-    let before = units::chapter::months_before(y);
-    let date = lunisolar::dates::date_in(Xinghe::calendar(), y, before, m, number);
+    let date = lunisolar::dates::date_in(units::chapter::begun(y), m, number);
     Ok(date)
 }

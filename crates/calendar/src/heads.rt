@@ -10,12 +10,12 @@ fn head_of(y: u64) -> YearHead
     requires { y < 1048576 }
     ensures { result ≡ head_of y }
 {
-    let before = units::chapter::months_before(y);
+    let year = units::chapter::begun(y);
     let remainder = Xinghe::leap_remainder(y);
-    let months = units::chapter::year_months(y, before);
+    let months = units::chapter::year_months(year);
     let solstice = sun::winter_solstice(y);
     YearHead {
-        before,
+        before: year.before,
         remainder,
         months: months.count,
         leap: months.leap,

@@ -9,6 +9,7 @@ ghost use Rattle.calendar.specs.Rows.{row_fields, row_of, month_row};
 
 use crate::elements::{Elements, elements_of};
 use crate::{MonthRow, YearHead};
+use lunisolar::Year;
 use lunisolar::naming::MonthName;
 use mean_calendar::parts::{DayParts, DayShare};
 use refusal::{Numbered, Refusal};
@@ -80,15 +81,21 @@ fn row_named(name: MonthName, lunation: u64, elements: Elements) -> MonthRow
     }
 }
 
-// The row of a month whose year, counted from 0, and the months before that year are at hand.
-fn row_from(y: u64, before: u64, lunation: u64) -> MonthRow
-    requires { (lunation < round_months) × (y ≡ year_of rule lunation) × (before ≡ rule.before y) }
+// The row of a month whose year is at hand.
+fn row_from(year: Year, lunation: u64) -> MonthRow
+    requires { (year.calendar.constants ≡ xinghe) × (lunation < round_months) × (year.past ≡ year_of rule lunation) }
     ensures { result ≡ row_of lunation }
 {
     let elements = elements_of(lunation);
     let first = elements.moon.day;
     let next = first + moon::length_of(elements.moon.remainder);
-    let name = lunisolar::naming::name_from(Xinghe::calendar(), y, lunation - before, first, next);
+    let name = lunisolar::naming::name_from(
+        year.calendar,
+        year.past,
+        lunation - year.before,
+        first,
+        next,
+    );
     row_named(name, lunation, elements)
 }
 
@@ -98,8 +105,7 @@ pub fn row_of(lunation: u64) -> MonthRow
     ensures { result ≡ row_of lunation }
 {
     let y = Xinghe::year_of(lunation);
-    let before = units::chapter::months_before(y);
-    row_from(y, before, lunation)
+    row_from(units::chapter::begun(y), lunation)
 }
 
 #[tactic(auto, unfolding(crate::specs::Rows::row_for))]
@@ -108,7 +114,12 @@ pub fn month_row(year: u64, place: u64) -> Result<MonthRow, Refusal>
 {
     let m = Xinghe::lunation_at(year, place)?;
     // the month less its place is the months before its year
-    Ok(row_from(year - 1, m - place, m))
+    let begun = Year {
+        calendar: Xinghe::calendar(),
+        past: year - 1,
+        before: m - place,
+    };
+    Ok(row_from(begun, m))
 }
 
 // The row at a place of a year whose head and whose month's new moon are at hand: one head serves all rows of its year, and the new moon's elements

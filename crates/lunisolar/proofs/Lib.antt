@@ -5,3 +5,4 @@ pub mod Sexagenary
 pub mod Rounds
 pub mod Days
 pub mod Numbers
+pub mod Years

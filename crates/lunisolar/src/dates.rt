@@ -7,9 +7,9 @@ ghost use Rattle.lunisolar.specs.Calendars.{InCalendar, means_of, rule_of};
 ghost use Rattle.lunisolar.specs.Dates.{day_in, day_for, day_of_date, date_in, date_of_day};
 ghost use Rattle.lunisolar.specs.Answers.{zero_day, zero_date};
 
-use crate::Calendar;
 use crate::means::{month_length, month_of_day, new_moon_day};
-use crate::rule::{months_before, year_of};
+use crate::rule::{begun, year_of};
+use crate::{Calendar, Year};
 use refusal::Refusal;
 
 // A day: its number, and its day of the sixty, from 1.
@@ -68,18 +68,17 @@ pub fn date_of_day(k: Calendar, number: u64) -> Result<Date, Refusal>
     }
     let m = month_of_day(k, number);
     let y = year_of(k, m);
-    let before = months_before(k, y);
-    Ok(date_in(k, y, before, m, number))
+    Ok(date_in(begun(k, y), m, number))
 }
 
 // The date of a day, with the month that it lies in, the year of that, counted from 0, and the months before the year.
-pub fn date_in(k: Calendar, y: u64, before: u64, m: u64, day: u64) -> Date
-    requires { (m < k.constants.lunations) × (y ≡ year_of (rule_of k.constants) m) × (before ≡ (rule_of k.constants).before y) × (m ≡ month_of (new_moon (means_of k.constants)) day) }
-    ensures { result ≡ date_in k.constants m day }
+pub fn date_in(year: Year, m: u64, day: u64) -> Date
+    requires { (m < year.calendar.constants.lunations) × (year.past ≡ year_of (rule_of year.calendar.constants) m) × (m ≡ month_of (new_moon (means_of year.calendar.constants)) day) }
+    ensures { result ≡ date_in year.calendar.constants m day }
 {
     Date {
-        year: y + k.constants.first,
-        place: m - before,
-        day: day - new_moon_day(k, m) + 1,
+        year: year.past + year.calendar.constants.first,
+        place: m - year.before,
+        day: day - new_moon_day(year.calendar, m) + 1,
     }
 }

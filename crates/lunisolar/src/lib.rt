@@ -37,6 +37,16 @@ pub struct Calendar {
     pub ghost sound: { Sound constants },
 }
 
+// A year of a calendar by the years past, and the months before it.
+#[derive(Clone, Copy)]
+pub struct Year {
+    pub calendar: Calendar,
+    pub past: u64,
+    pub before: u64,
+    pub ghost low: { past < 1048576 },
+    pub ghost counted: { before ≡ (rule_of calendar.constants).before past },
+}
+
 // The years past before a year as it is written.
 pub fn year_at(k: Calendar, year: u64) -> Result<u64, Refusal>
     ensures { result ≡ year_at k.constants year }
@@ -52,24 +62,22 @@ pub fn year_at(k: Calendar, year: u64) -> Result<u64, Refusal>
 }
 
 // Whether year y, counted from 0, with so many months before it, has a place.
-fn has_place(k: Calendar, y: u64, before: u64, place: u64) -> bool
-    requires { (y < 1048576) × (before ≡ (rule_of k.constants).before y) }
-    ensures { result ≡ ltb place (month_count (rule_of k.constants) y) }
+fn has_place(year: Year, place: u64) -> bool
+    ensures { result ≡ ltb place (month_count (rule_of year.calendar.constants) year.past) }
 {
     // Every year has twelve months: the thirteenth is seldom asked for, and only then looked for.
     if place < 12 {
         return true;
     }
-    place < rule::month_count(k, y, before)
+    place < rule::month_count(year)
 }
 
 // The month at a place of year y, counted from 0, from the months before it.
-pub fn lunation_in(k: Calendar, y: u64, before: u64, place: u64) -> Result<u64, Refusal>
-    requires { (y < 1048576) × (before ≡ (rule_of k.constants).before y) }
-    ensures { result ≡ lunation_for k.constants (Ok y) place }
+pub fn lunation_in(year: Year, place: u64) -> Result<u64, Refusal>
+    ensures { result ≡ lunation_for year.calendar.constants (Ok year.past) place }
 {
-    if has_place(k, y, before, place) {
-        Ok(before + place)
+    if has_place(year, place) {
+        Ok(year.before + place)
     } else {
         Err(Refusal::Place)
     }
@@ -81,6 +89,5 @@ pub fn lunation_at(k: Calendar, year: u64, place: u64) -> Result<u64, Refusal>
     ensures { result ≡ lunation_at k.constants year place }
 {
     let y = year_at(k, year)?;
-    let before = rule::months_before(k, y);
-    lunation_in(k, y, before, place)
+    lunation_in(rule::begun(k, y), place)
 }

@@ -5,18 +5,17 @@ ghost use Rattle.mean_calendar.specs.Heads.{head_of, year_head};
 
 use crate::MeanHead;
 use crate::parts::over_degree;
-use lunisolar::Calendar;
+use lunisolar::{Calendar, Year};
 use refusal::Refusal;
 
 // Of year y, counted from 0, from the months before it.
-fn head_of(k: Calendar, y: u64, before: u64) -> MeanHead
-    requires { (y < 1048576) × (before ≡ (rule_of k.constants).before y) }
-    ensures { result ≡ head_of k.constants y }
+fn head_of(year: Year) -> MeanHead
+    ensures { result ≡ head_of year.calendar.constants year.past }
 {
-    let months = lunisolar::rule::year_months(k, y, before);
-    let solstice = over_degree(k, y * k.constants.year);
+    let months = lunisolar::rule::year_months(year);
+    let solstice = over_degree(year.calendar, year.past * year.calendar.constants.year);
     MeanHead {
-        before,
+        before: year.before,
         months: months.count,
         leap: months.leap,
         solstice: solstice.whole,
@@ -30,5 +29,9 @@ pub fn head_for(k: Calendar, year: u64, first: Result<u64, Refusal>) -> Result<M
     ensures { result ≡ year_head k.constants year }
 {
     let before = first?;
-    Ok(head_of(k, year - k.constants.first, before))
+    Ok(head_of(Year {
+        calendar: k,
+        past: year - k.constants.first,
+        before,
+    }))
 }

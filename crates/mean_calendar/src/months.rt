@@ -12,7 +12,7 @@ use crate::parts::{DayShare, over_day};
 use crate::{MeanHead, MeanMonth};
 use lunisolar::means::month_length;
 use lunisolar::naming::MonthName;
-use lunisolar::{Calendar, Constants};
+use lunisolar::{Calendar, Constants, Year};
 use refusal::Refusal;
 
 // The month whose name, new moon and length are at hand. Nothing is worked out, so that the constants stand in the contract alone.
@@ -47,15 +47,21 @@ fn new_moon(k: Calendar, lunation: u64) -> DayShare
 }
 
 // The month whose year, counted from 0, and the months before that year are at hand.
-fn month_from(k: Calendar, y: u64, before: u64, lunation: u64) -> MeanMonth
-    requires { (lunation < k.constants.lunations) × (y ≡ year_of (rule_of k.constants) lunation) × (before ≡ (rule_of k.constants).before y) }
-    ensures { result ≡ month_of k.constants lunation }
+fn month_from(year: Year, lunation: u64) -> MeanMonth
+    requires { (lunation < year.calendar.constants.lunations) × (year.past ≡ year_of (rule_of year.calendar.constants) lunation) }
+    ensures { result ≡ month_of year.calendar.constants lunation }
 {
-    let moon = new_moon(k, lunation);
-    let length = month_length(k, lunation);
+    let moon = new_moon(year.calendar, lunation);
+    let length = month_length(year.calendar, lunation);
     let next = moon.whole + length;
-    let name = lunisolar::naming::name_from(k, y, lunation - before, moon.whole, next);
-    month_by(k.constants, name, lunation, moon, length)
+    let name = lunisolar::naming::name_from(
+        year.calendar,
+        year.past,
+        lunation - year.before,
+        moon.whole,
+        next,
+    );
+    month_by(year.calendar.constants, name, lunation, moon, length)
 }
 
 // The month worked out from the origin.
@@ -64,8 +70,7 @@ pub fn month_of(k: Calendar, lunation: u64) -> MeanMonth
     ensures { result ≡ month_of k.constants lunation }
 {
     let y = lunisolar::rule::year_of(k, lunation);
-    let before = lunisolar::rule::months_before(k, y);
-    month_from(k, y, before, lunation)
+    month_from(lunisolar::rule::begun(k, y), lunation)
 }
 
 // The month at a place of a year, which was sought there.
@@ -81,7 +86,12 @@ pub fn month_for(
 {
     let m = month?;
     // the month less its place is the months before its year
-    Ok(month_from(k, year - k.constants.first, m - place, m))
+    let begun = Year {
+        calendar: k,
+        past: year - k.constants.first,
+        before: m - place,
+    };
+    Ok(month_from(begun, m))
 }
 
 // The month at a place of a year whose head is at hand: one head serves all months of its year.

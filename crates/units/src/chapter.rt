@@ -9,6 +9,7 @@ ghost use Rattle.units.specs.Chapter.{by_chapter};
 
 use crate::Xinghe;
 use crate::entries::entry;
+use lunisolar::Year;
 use lunisolar::rule::YearMonths;
 
 // From this leap remainder on the month after the solstice's may begin on its day; below, it begins a day or more after the solstice.
@@ -49,10 +50,22 @@ fn near_leap(y: u64) -> u64
     (12 * (Xinghe::CHAPTER - Xinghe::leap_remainder(y)) - 1) / LEAPS
 }
 
-// What year y has of its months, from the months before it.
-pub fn year_months(y: u64, before: u64) -> YearMonths
-    requires { (y < 1048576) × (before ≡ rule.before y) }
-    ensures { result ≡ year_months xinghe y }
+// What a year has of its months.
+pub fn year_months(year: Year) -> YearMonths
+    requires { year.calendar.constants ≡ xinghe }
+    ensures { result ≡ year_months xinghe year.past }
 {
-    lunisolar::rule::months_near(Xinghe::calendar(), y, before, near_leap(y))
+    lunisolar::rule::months_near(year, near_leap(year.past))
+}
+
+// Year y with the months before it.
+pub fn begun(y: u64) -> Year
+    requires { y < 1048576 }
+    ensures { (result.calendar.constants ≡ xinghe) × (result.past ≡ y) }
+{
+    Year {
+        calendar: Xinghe::calendar(),
+        past: y,
+        before: months_before(y),
+    }
 }

@@ -92,8 +92,7 @@ impl Xinghe {
         ensures { result ≡ lunation_at xinghe year place }
     {
         let y = Xinghe::year_at(year)?;
-        let before = chapter::months_before(y);
-        lunisolar::lunation_in(Xinghe::calendar(), y, before, place)
+        lunisolar::lunation_in(chapter::begun(y), place)
     }
 
     // The leap remainder of a year, counted from 0.

@@ -9,8 +9,8 @@ use Rattle.lunisolar.proofs.has_place.Goals as goal
 
 pub returns-then-place-lt12 : goal.returns-then-place-lt12
 returns-then-place-lt12 c =
-    let R = rule_of c.args.k.constants in
-    let L = laws_of c.args.k.constants c.args.k.sound in
+    let R = rule_of c.args.year.calendar.constants in
+    let L = laws_of c.args.year.calendar.constants c.args.year.calendar.sound in
     sym
-    (lt-ltb c.args.place (month_count R c.args.y)
-    (omega (arith, c.if-place-lt12.true, year_low R L c.args.y, year_ends R L c.args.y)))
+    (lt-ltb c.args.place (month_count R c.args.year.past)
+    (omega (arith, c.if-place-lt12.true, year_low R L c.args.year.past, year_ends R L c.args.year.past)))

@@ -8,12 +8,12 @@ use Rattle.lunisolar.proofs.lunation_in.Goals as goal
 
 pub overflow_add-result : goal.overflow_add-result
 overflow_add-result c =
-    let h = ltb-true c.args.place (month_count (rule_of c.args.k.constants) c.args.y) (sym c.has_place.ensures ∙ c.if-has_place.true) in
-    omega (arith, h, c.requires.1, before_bound c.args.k.constants c.args.k.sound c.args.y, count_bound c.args.k.constants c.args.k.sound c.args.y)
+    let h = ltb-true c.args.place (month_count (rule_of c.args.year.calendar.constants) c.args.year.past) (sym c.has_place.ensures ∙ c.if-has_place.true) in
+    omega (arith, h, c.args.year.counted, before_bound c.args.year.calendar.constants c.args.year.calendar.sound c.args.year.past, count_bound c.args.year.calendar.constants c.args.year.calendar.sound c.args.year.past)
 
 pub returns-then-has_place : goal.returns-then-has_place
 unfolding lunation_for
-returns-then-has_place c = rw (← c.has_place.ensures, c.if-has_place.true, c.requires.1) refl
+returns-then-has_place c = rw (← c.has_place.ensures, c.if-has_place.true, c.args.year.counted) refl
 
 pub returns-else-has_place : goal.returns-else-has_place
 unfolding lunation_for

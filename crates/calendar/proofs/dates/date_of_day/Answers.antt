@@ -19,14 +19,14 @@ returns-then-number-ge-DAYS c = rw (le-ltb c.args.number round_days c.if-number-
 pub year_of-y-requires : goal.year_of-y-requires
 year_of-y-requires c = omega (arith, in_round_lem c)
 
-pub months_before-before-requires : goal.months_before-before-requires
-months_before-before-requires c = omega (arith, c.year_of-y.ensures, year_in_round xinghe sound c.month_of_day-m.result (in_round_lem c.before))
+pub begun-requires : goal.begun-requires
+begun-requires c = omega (arith, c.year_of-y.ensures, year_in_round xinghe sound c.month_of_day-m.result (in_round_lem c.before))
 
 pub date_in-date-requires : goal.date_in-date-requires
 date_in-date-requires c =
-    rw c.calendar.ensures (in_round_lem c.before.before.before, c.year_of-y.ensures, c.months_before-before.ensures, c.month_of_day-m.ensures)
+    rw (c.begun.ensures.0, c.begun.ensures.1) (in_round_lem c.before.before, c.year_of-y.ensures, c.month_of_day-m.ensures)
 
 pub returns : goal.returns
 unfolding date_of_day
 returns c =
-    rw (lt-ltb c.args.number round_days c.if-number-ge-DAYS.false, c.date_in-date.ensures, c.calendar.ensures, c.month_of_day-m.ensures) refl
+    rw (lt-ltb c.args.number round_days c.if-number-ge-DAYS.false, c.date_in-date.ensures, c.begun.ensures.0, c.month_of_day-m.ensures) refl

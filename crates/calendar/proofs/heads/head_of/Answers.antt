@@ -6,9 +6,11 @@ pub returns : goal.returns
 unfolding head_of
 returns c =
     rw (
-      c.months_before-before.ensures,
+      c.begun-year.result.counted,
+      c.begun-year.ensures.0,
       c.leap_remainder-remainder.ensures,
       c.year_months-months.ensures,
+      c.begun-year.ensures.1,
       c.winter_solstice-solstice.ensures,
     )
     refl

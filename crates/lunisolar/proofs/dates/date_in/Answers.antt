@@ -14,21 +14,21 @@ use Rattle.lunisolar.proofs.Rounds.{year_in_round}
 use Rattle.lunisolar.proofs.dates.date_in.Goals as goal
 
 -- the day lies in the month
-from : (a : goal.After-struct_known-1) → new_moon (means_of a.args.k.constants) a.args.m ≤ a.args.day
-from a = rw a.requires.3 (month_from (new_moon (means_of a.args.k.constants)) (days_climb a.args.k.constants a.args.k.sound) a.args.day)
+from : (a : goal.After-new_moon_day-arg-1) → new_moon (means_of a.args.year.calendar.constants) a.args.m ≤ a.args.day
+from a = rw a.requires.2 (month_from (new_moon (means_of a.args.year.calendar.constants)) (days_climb a.args.year.calendar.constants a.args.year.calendar.sound) a.args.day)
 
-upto : (a : goal.After-struct_known-1) → a.args.day < new_moon (means_of a.args.k.constants) (suc a.args.m)
-upto a = rw a.requires.3 (month_to (new_moon (means_of a.args.k.constants)) (days_climb a.args.k.constants a.args.k.sound) a.args.day)
+upto : (a : goal.After-new_moon_day-arg-1) → a.args.day < new_moon (means_of a.args.year.calendar.constants) (suc a.args.m)
+upto a = rw a.requires.2 (month_to (new_moon (means_of a.args.year.calendar.constants)) (days_climb a.args.year.calendar.constants a.args.year.calendar.sound) a.args.day)
 
 pub overflow_add-result : goal.overflow_add-result
 overflow_add-result c =
-    omega (arith, c.requires.1, year_in_round c.args.k.constants c.args.k.sound c.args.m c.requires.0, c.args.k.sound.years, c.args.k.sound.first)
+    omega (arith, c.requires.1, year_in_round c.args.year.calendar.constants c.args.year.calendar.sound c.args.m c.requires.0, c.args.year.calendar.sound.years, c.args.year.calendar.sound.first)
 
 pub overflow_sub-result : goal.overflow_sub-result
-overflow_sub-result c = rw (c.requires.2, c.requires.1) (year_from (rule_of c.args.k.constants) (laws_of c.args.k.constants c.args.k.sound) c.args.m)
+overflow_sub-result c = rw (c.args.year.counted, c.requires.1) (year_from (rule_of c.args.year.calendar.constants) (laws_of c.args.year.calendar.constants c.args.year.calendar.sound) c.args.m)
 
 pub new_moon_day-requires : goal.new_moon_day-requires
-new_moon_day-requires c = (omega (arith, c.requires.0, lunations_bound c.args.k.constants c.args.k.sound))
+new_moon_day-requires c = (omega (arith, c.requires.0, lunations_bound c.args.year.calendar.constants c.args.year.calendar.sound))
 
 pub overflow_sub-result-2 : goal.overflow_sub-result-2
 overflow_sub-result-2 c = rw c.new_moon_day.ensures (from c.before)
@@ -38,11 +38,11 @@ overflow_add-result-2 c =
     omega (
       arith,
       upto c.before,
-      moon_high (means_of c.args.k.constants) c.args.k.sound.moon (suc c.args.m),
+      moon_high (means_of c.args.year.calendar.constants) c.args.year.calendar.sound.moon (suc c.args.m),
       c.requires.0,
-      lunations_bound c.args.k.constants c.args.k.sound,
+      lunations_bound c.args.year.calendar.constants c.args.year.calendar.sound,
     )
 
 pub returns : goal.returns
 unfolding date_in name_of place_of
-returns c = rw (c.new_moon_day.ensures, c.requires.2, c.requires.1) refl
+returns c = rw (c.new_moon_day.ensures, c.args.year.counted, c.requires.1) refl

@@ -24,13 +24,14 @@ month_of_day-m-requires c = (omega (arith, c.if-k-number.false, c.args.k.sound.d
 pub year_of-y-requires : goal.year_of-y-requires
 year_of-y-requires c = (omega (arith, in_round_lem c, lunations_bound c.args.k.constants c.args.k.sound))
 
-pub months_before-before-requires : goal.months_before-before-requires
-months_before-before-requires c = (omega (arith, c.year_of-y.ensures, year_in_round c.args.k.constants c.args.k.sound c.month_of_day-m.result (in_round_lem c.before), c.args.k.sound.years))
+pub begun-requires : goal.begun-requires
+begun-requires c = (omega (arith, c.year_of-y.ensures, year_in_round c.args.k.constants c.args.k.sound c.month_of_day-m.result (in_round_lem c.before), c.args.k.sound.years))
 
 pub date_in-requires : goal.date_in-requires
-date_in-requires c = (in_round_lem c.before.before, c.year_of-y.ensures, c.months_before-before.ensures, c.month_of_day-m.ensures)
+date_in-requires c =
+    rw (c.begun.ensures.0, c.begun.ensures.1) (in_round_lem c.before.before, c.year_of-y.ensures, c.month_of_day-m.ensures)
 
 pub returns : goal.returns
 unfolding date_of_day
 returns c =
-    rw (lt-ltb c.args.number c.args.k.constants.days c.if-k-number.false, c.date_in.ensures, c.month_of_day-m.ensures) refl
+    rw (lt-ltb c.args.number c.args.k.constants.days c.if-k-number.false, c.date_in.ensures, c.begun.ensures.0, c.month_of_day-m.ensures) refl

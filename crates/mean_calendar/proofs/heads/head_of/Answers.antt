@@ -5,4 +5,4 @@ use Rattle.mean_calendar.proofs.heads.head_of.Goals as goal
 pub returns : goal.returns
 unfolding head_of
 returns c =
-    rw (c.over_degree-solstice.ensures, c.year_months-months.ensures, c.requires.1) refl
+    rw (c.over_degree-solstice.ensures, c.year_months-months.ensures, c.args.year.counted) refl

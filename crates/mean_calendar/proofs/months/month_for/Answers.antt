@@ -1,27 +1,27 @@
-use Rattle.std.specs.Prelude.{Ok}
 use native.Mathlib.Omega.{arith}
-use mathlib.Core.Path.{◌≡◌, ◌∙◌, sym}
-use Prim.Native.Nat.{◌-◌, ◌≤◌}
-use Rattle.lunisolar.specs.Calendars.{Stands, lunation_at}
+use mathlib.Core.Path.{◌∙◌, sym}
+use Prim.Native.Nat.{◌-◌}
 use Rattle.lunisolar.proofs.Rounds.{found, in_round_lem, stands_year}
 use Rattle.mean_calendar.proofs.months.month_for.Goals as goal
 
--- the month that the match binds, and where it stands
-is_lunation : (a : goal.After-struct_known-1) → (let x = a.args in Ok a.in_ok-m.m ≡ lunation_at x.k.constants x.year x.place)
-is_lunation a = sym a.in_ok-m.was ∙ a.requires
+pub overflow_sub-begun : goal.overflow_sub-begun
+overflow_sub-begun c =
+    let x = c.args in
+    (found x.k.constants x.k.sound x.year x.place c.in_ok-m.m (sym c.in_ok-m.was ∙ c.requires)).0
 
-stood : (a : goal.After-struct_known-1) → (let x = a.args in (x.k.constants.first ≤ x.year) × Stands x.k.constants (x.year - x.k.constants.first) x.place a.in_ok-m.m)
-stood a = found a.args.k.constants a.args.k.sound a.args.year a.args.place a.in_ok-m.m (is_lunation a)
+pub overflow_sub-begun-2 : goal.overflow_sub-begun-2
+overflow_sub-begun-2 c =
+    let x = c.args in
+    omega (arith, (found x.k.constants x.k.sound x.year x.place c.in_ok-m.m (sym c.in_ok-m.was ∙ c.requires)).1.month)
 
-pub overflow_sub-year : goal.overflow_sub-year
-overflow_sub-year c = (stood c).0
-
-pub overflow_sub-m : goal.overflow_sub-m
-overflow_sub-m c = omega (arith, (stood c).1.month)
+pub invariant_of-begun : goal.invariant_of-begun
+invariant_of-begun c =
+    let x = c.args in
+    let t = (found x.k.constants x.k.sound x.year x.place c.in_ok-m.m (sym c.in_ok-m.was ∙ c.requires)).1 in
+    record { low = omega (arith, t.year, x.k.sound.years); counted = omega (arith, t.month) }
 
 pub month_from-requires : goal.month_from-requires
 month_from-requires c =
-    let t = (stood c).1 in
     let x = c.args in
-    let m = c.in_ok-m.m in
-    (in_round_lem x.k.constants c.args.k.sound (x.year - x.k.constants.first) x.place m t, sym (stands_year x.k.constants c.args.k.sound (x.year - x.k.constants.first) x.place m t), omega (arith, t.month))
+    let t = (found x.k.constants x.k.sound x.year x.place c.in_ok-m.m (sym c.in_ok-m.was ∙ c.requires)).1 in
+    (in_round_lem x.k.constants x.k.sound (x.year - x.k.constants.first) x.place c.in_ok-m.m t, sym (stands_year x.k.constants x.k.sound (x.year - x.k.constants.first) x.place c.in_ok-m.m t))
