@@ -17,7 +17,7 @@ use Rattle.planets.specs.Planets.{is_planet}
 use Rattle.planets.specs.Answers.{apparition_number, stage_kind_number, is_back, stage_fields}
 use Rattle.planets.specs.Stages.{in_room, stages_of}
 use Rattle.planets.specs.Rows.{kind_of, apparition_of, signed_degrees, stage_of, Small}
-use Rattle.planets.specs.Jobs.{stages_at}
+use Rattle.planets.specs.Jobs.{stages_at, shown_stages}
 use Rattle.planets.proofs.Cases.{each_planet}
 
 kind_again : (k : StageKind) → kind_of (stage_kind_number k) ≡ k
@@ -53,7 +53,7 @@ each_small [] t i h = absurd (omega (arith, h))
 each_small (row ∷ rows) t zero h = ltb→lt (get_or row 3 0) 4294967296 (both_left (ltb (get_or row 3 0) 4294967296) (all_small rows) t)
 each_small (row ∷ rows) t (suc i) h = each_small rows (both_right (ltb (get_or row 3 0) 4294967296) (all_small rows) t) i (omega (arith, h))
 
-all_small_lem : (p : ℕ) → T (all_small (map stage_fields (stages_at p).stages))
+all_small_lem : (p : ℕ) → T (all_small (map stage_fields (shown_stages p).stages))
 unfolding stages_at
 all_small_lem p =
     ⊎_elim
@@ -61,5 +61,5 @@ all_small_lem p =
     (λ (h : ¬ (T (is_planet p))). rw (T_false (is_planet p) h) tt)
     (decide (is_planet p))
 
-pub small_rows : (p : ℕ) → Small (map stage_fields (stages_at p).stages)
-small_rows p = each_small (map stage_fields (stages_at p).stages) (all_small_lem p)
+pub small_rows : (p : ℕ) → Small (map stage_fields (shown_stages p).stages)
+small_rows p = each_small (map stage_fields (shown_stages p).stages) (all_small_lem p)

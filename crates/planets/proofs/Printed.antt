@@ -9,7 +9,7 @@ use Rattle.reckoning.specs.Search.{between}
 use Rattle.planets.specs.Planets.{is_planet}
 use Rattle.planets.specs.Stages.{stages_of, no_stages}
 use Rattle.planets.specs.Guards.{AddsUp}
-use Rattle.planets.specs.Jobs.{stages_at}
+use Rattle.planets.specs.Jobs.{stages_at, shown_stages}
 use Rattle.planets.proofs.Cases.{each_planet}
 
 -- the guards over the table
@@ -24,8 +24,8 @@ adds_up =
 
 -- THE ANSWER HAS THE PLANET'S STAGES, ALL OF THEM, up to its count, and zero from there on
 pub record ShowsAll (p : ℕ) : Type 0 where
-  pub stages : take (result_unwrap_or (stages_at p).count 0) (stages_at p).stages ≡ stages_of p
-  pub unused : drop (result_unwrap_or (stages_at p).count 0) (stages_at p).stages ≡ drop (result_unwrap_or (stages_at p).count 0) no_stages
+  pub stages : take (shown_stages p).count (shown_stages p).stages ≡ stages_of p
+  pub unused : drop (shown_stages p).count (shown_stages p).stages ≡ drop (shown_stages p).count no_stages
 
 pub shows_all : (p : ℕ) → T (is_planet p) → ShowsAll p
 unfolding stages_at between

@@ -16,8 +16,8 @@ use Rattle.units.proofs.Years.{of_year}
 use Rattle.planets.specs.Planets.{is_planet, planet_of}
 use Rattle.planets.specs.Answers.{conjunctions_of, zero_conjunctions}
 use Rattle.planets.specs.Stages.{stages_of, in_room, no_stages}
-use Rattle.planets.specs.Jobs.{conjunctions_in, conjunctions_for, conjunctions_at, stages_at}
-use Rattle.planets.specs.declared.StagesAnswer.{StagesAnswer}
+use Rattle.planets.specs.Jobs.{conjunctions_in, conjunctions_for, conjunctions_at, stages_at, zero_stages, shown_stages}
+use Rattle.planets.specs.declared.StageList.{StageList}
 
 pub conjunctions_numbers : (n p : ℕ) → answer_number (conjunctions_at n p) ≡ pick (is_year n) (pick (is_planet p) 0 9) 1
 unfolding conjunctions_for conjunctions_in
@@ -31,21 +31,13 @@ pub conjunctions_zero : (a : Result TwoConjunctions Refusal) → ¬ (answer_numb
 conjunctions_zero (Ok x) h = absurd (h refl)
 conjunctions_zero (Err e) h = refl
 
--- the answer that has a planet's stages, and the one that refuses
-abbrev answered : ℕ → StagesAnswer
-answered p = record { count = Ok (length (stages_of p)); stages = in_room (stages_of p) }
-
-abbrev refused : StagesAnswer
-refused = record { count = Err Refusal.Planet; stages = no_stages }
-
-pub stages_numbers : (p : ℕ) → answer_number (stages_at p).count ≡ pick (is_planet p) 0 9
+pub stages_numbers : (p : ℕ) → answer_number (stages_at p) ≡ pick (is_planet p) 0 9
 unfolding stages_at
-stages_numbers p = through (λ (a : StagesAnswer). answer_number a.count) (is_planet p) (answered p) refused
+stages_numbers p = through answer_number (is_planet p) (Ok (record { count = length (stages_of p); stages = in_room (stages_of p) })) (Err Refusal.Planet)
 
-pub stages_zero : (p : ℕ) → ¬ (answer_number (stages_at p).count ≡ 0) → (result_unwrap_or (stages_at p).count 0 ≡ 0) × ((stages_at p).stages ≡ no_stages)
-unfolding stages_at
-stages_zero p = go (is_planet p)
+pub stages_zero : (p : ℕ) → ¬ (answer_number (stages_at p) ≡ 0) → shown_stages p ≡ zero_stages
+stages_zero p = go (stages_at p)
   where
-    go : (b : Bool) → ¬ (answer_number (pick b (answered p) refused).count ≡ 0) → (result_unwrap_or (pick b (answered p) refused).count 0 ≡ 0) × ((pick b (answered p) refused).stages ≡ no_stages)
-    go true h = absurd (h refl)
-    go false h = (refl, refl)
+    go : (a : Result StageList Refusal) → ¬ (answer_number a ≡ 0) → result_unwrap_or a zero_stages ≡ zero_stages
+    go (Ok s) h = absurd (h refl)
+    go (Err e) h = refl

@@ -2,7 +2,7 @@
 #![tactic(auto)]
 
 ghost use Rattle.std.specs.Prelude.{◌≡◌, ◌<◌};
-ghost use Rattle.planets.specs.Jobs.{conjunctions_in, conjunctions_at, stages_at};
+ghost use Rattle.planets.specs.Jobs.{conjunctions_in, conjunctions_at, stages_at, count_of};
 
 use refusal::Refusal;
 use units::Xinghe;
@@ -62,10 +62,10 @@ pub struct Stage {
     pub apparition: Apparition,
 }
 
-// An enum can't hold an array, so the stages stand beside their count: in print order, zero from the count on.
+// How many stages a planet has, and they themselves in print order, zero from the count on.
 #[derive(Clone, Copy)]
-pub struct StagesAnswer {
-    pub count: Result<u64, Refusal>,
+pub struct StageList {
+    pub count: u64,
     pub stages: [Stage; 14],
 }
 
@@ -92,7 +92,7 @@ pub fn conjunctions(year: u64, planet: u64) -> Result<TwoConjunctions, Refusal>
 
 // How many stages a planet has.
 pub fn stage_count(planet: u64) -> Result<u64, Refusal>
-    ensures { result ≡ (stages_at planet).count }
+    ensures { result ≡ count_of (stages_at planet) }
 {
     match planet {
         1 => Ok(9),
@@ -104,12 +104,10 @@ pub fn stage_count(planet: u64) -> Result<u64, Refusal>
     }
 }
 
-pub fn stages(planet: u64) -> StagesAnswer
+pub fn stages(planet: u64) -> Result<StageList, Refusal>
     ensures { result ≡ stages_at planet }
 {
+    let count = stage_count(planet)?;
     let stages = decode::stages_of(table::rows_of(planet));
-    StagesAnswer {
-        count: stage_count(planet),
-        stages,
-    }
+    Ok(StageList { count, stages })
 }

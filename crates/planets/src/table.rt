@@ -4,7 +4,7 @@
 ghost use Rattle.std.specs.Prelude.{◌≡◌, map};
 ghost use Rattle.planets.specs.Stages.{jupiter_stages, mars_stages, saturn_stages, venus_stages, mercury_stages, in_room};
 ghost use Rattle.planets.specs.Answers.{stage_fields};
-ghost use Rattle.planets.specs.Jobs.{stages_at};
+ghost use Rattle.planets.specs.Jobs.{shown_stages};
 
 const UNUSED: [u64; 10] = [0; 10];
 
@@ -125,7 +125,7 @@ fn mercury_rows() -> [[u64; 10]; 14]
 
 // The rows of a planet's stages: zeros where there is no such planet.
 pub fn rows_of(planet: u64) -> [[u64; 10]; 14]
-    ensures { result ≡ map stage_fields (stages_at planet).stages }
+    ensures { result ≡ map stage_fields (shown_stages planet).stages }
 {
     match planet {
         1 => jupiter_rows(),

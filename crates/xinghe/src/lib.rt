@@ -14,7 +14,7 @@ ghost use Rattle.ephemeris.specs.Jobs.{phases_at, nodes_at, corrections_at, cut_
 ghost use Rattle.ephemeris.specs.Answers.{zero_phases, zero_nodes, zero_corrections, zero_point};
 ghost use Rattle.names.specs.Names.{bytes_of, label_location, label_number};
 ghost use Rattle.names.specs.Ganzhi.{ganzhi};
-ghost use Rattle.planets.specs.Jobs.{conjunctions_at, stages_at};
+ghost use Rattle.planets.specs.Jobs.{conjunctions_at, stages_at, shown_stages};
 ghost use Rattle.planets.specs.Answers.{zero_conjunctions};
 ghost use Rattle.fields.specs.Fields.{conjunctions_fields, stages_fields, location_fields, head_fields, day_fields, date_fields, phases_fields, nodes_fields, corrections_fields, point_fields};
 ghost use Rattle.calendar.specs.Carries.{carried_fields};
@@ -118,7 +118,7 @@ pub extern "C" fn xinghe_conjunctions(year: u64, planet: u64, out: &mut [u64; 10
 // All stages of a planet, of ten numbers each, and how many there are.
 #[unsafe(no_mangle)]
 pub extern "C" fn xinghe_stages(planet: u64, count: &mut [u64; 1], out: &mut [[u64; 10]; 14]) -> u64
-    ensures { (result ≡ answer_number (stages_at planet).count) × (count.new ≡ result_unwrap_or (stages_at planet).count 0 ∷ []) × (out.new ≡ stages_fields (stages_at planet).stages) }
+    ensures { (result ≡ answer_number (stages_at planet)) × (count.new ≡ (shown_stages planet).count ∷ []) × (out.new ≡ stages_fields (shown_stages planet).stages) }
 {
     let counted = planets::stage_count(planet);
     *count = [counted.unwrap_or(0)];
