@@ -3,8 +3,7 @@
 use Rattle.std.specs.Prelude.{◌≡◌, false, List, ℕ, ◌+◌, ◌-◌, ◌*◌, ◌/◌, ◌%◌, ◌≤◌, ◌<◌, leb, ltb, ℤ}
 use Rattle.reckoning.specs.Search.{pick}
 use Rattle.units.specs.Xinghe.{N, P, T}
-use Rattle.units.specs.declared.remainder.DayRemainder.{DayRemainder}
-use Rattle.units.specs.declared.remainder.DayCarry.{DayCarry}
+use Rattle.units.specs.Units.{DayRemainder, DayCarry}
 use Rattle.anomaly.specs.Rates.{printed}
 use Rattle.anomaly.specs.Amounts.{signed_of, correction_on}
 use Rattle.anomaly.specs.declared.amounts.Amount.{Amount}

@@ -16,7 +16,7 @@ use Rattle.lunisolar.specs.Names.{name_of}
 use lib.Dec.{leb}
 use Rattle.mean_calendar.specs.Months.{month_of}
 use Rattle.units.specs.Xinghe.{rule, long_from, round_months}
-use Rattle.units.specs.declared.remainder.DayRemainder.{DayRemainder}
+use Rattle.units.specs.Units.{DayRemainder}
 use Rattle.units.proofs.Sound.{laws}
 use Rattle.moon.specs.NewMoons.{new_moon_of, length_of}
 use Rattle.calendar.specs.Heads.{year_head}

@@ -8,7 +8,7 @@ use borrow.Author.Tests.{le-leb, lt-leb}
 use Rattle.reckoning.specs.Means.{new_moon, new_moon_rest}
 use Rattle.reckoning.proofs.Searches.{le_or_lt}
 use Rattle.units.specs.Xinghe.{N, P, long_from, monthly_parts}
-use Rattle.units.specs.declared.remainder.DayRemainder.{DayRemainder}
+use Rattle.units.specs.Units.{DayRemainder}
 use Rattle.moon.specs.NewMoons.{new_moon_of, length_of, monthly_addition}
 use Rattle.moon.specs.declared.NewMoon.{NewMoon}
 

@@ -4,7 +4,7 @@ use Rattle.std.specs.Prelude.{ℕ, ◌+◌, ◌-◌, leb}
 use Rattle.reckoning.specs.Search.{pick}
 use Rattle.reckoning.specs.Means.{new_moon, new_moon_rest}
 use Rattle.units.specs.Xinghe.{N, means, long_from, monthly_parts}
-use Rattle.units.specs.declared.remainder.DayRemainder.{DayRemainder}
+use Rattle.units.specs.Units.{DayRemainder}
 use Rattle.moon.specs.declared.NewMoon.{NewMoon}
 
 -- month m begins on day m·P / N, with small remainder m·P mod N

@@ -3,8 +3,7 @@
 -- Assumes nothing.
 use Rattle.std.specs.Prelude.{Bool, true, false, cond, List, [], ◌∷◌, ℕ, ℤ, pos, negsuc, nat_abs}
 use Rattle.units.specs.Xinghe.{P}
-use Rattle.units.specs.Units.{degree_carry}
-use Rattle.units.specs.declared.remainder.DegreeCarry.{DegreeCarry}
+use Rattle.units.specs.Units.{degree_carry, DegreeCarry}
 use Rattle.planets.specs.declared.Apparition.{Apparition}
 use Rattle.planets.specs.declared.Conjunction.{Conjunction}
 use Rattle.planets.specs.declared.TwoConjunctions.{TwoConjunctions}

@@ -2,7 +2,7 @@
 -- Assumes nothing.
 use Rattle.std.specs.Prelude.{◌≡◌, ℕ, suc, ◌+◌, ◌*◌, ◌<◌}
 use Rattle.units.specs.Xinghe.{P, D}
-use Rattle.units.specs.declared.remainder.DegreeCarry.{DegreeCarry}
+use Rattle.units.specs.Units.{DegreeCarry}
 use Rattle.sun.specs.Solstices.{solstice_of}
 use Rattle.planets.specs.declared.Conjunction.{Conjunction}
 use Rattle.planets.specs.declared.TwoConjunctions.{TwoConjunctions}

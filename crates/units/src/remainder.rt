@@ -1,62 +1,41 @@
 // Remainders over N and over D: separate units, each with its own carry.
 ghost use Rattle.std.specs.Prelude.{◌≡◌, ◌+◌, ◌<◌};
-ghost use Rattle.units.specs.Units.{day_carry, degree_carry};
+ghost use Rattle.units.specs.Units.{carry_over};
 
-use crate::Xinghe;
-
-// A remainder over the day divisor, 208,530 (小餘 over 日法).
+// A remainder over a divisor. Remainders over two divisors are of two types.
 #[derive(Clone, Copy, Default)]
-pub struct DayRemainder {
+pub struct Remainder<const DIVISOR: u64> {
     pub parts: u64,
 }
 
-// A remainder over the degree divisor, 16,860 (小餘 over 蔀法).
+// Whole days or degrees, and what is left over the divisor.
 #[derive(Clone, Copy, Default)]
-pub struct DegreeRemainder {
-    pub parts: u64,
-}
-
-// Whole days or degrees, and what is left over N.
-#[derive(Clone, Copy)]
-pub struct DayCarry {
+pub struct Carry<const DIVISOR: u64> {
     pub whole: u64,
-    pub remainder: DayRemainder,
+    pub remainder: Remainder<DIVISOR>,
 }
 
-// Whole days, and what is left over D.
-#[derive(Clone, Copy, Default)]
-pub struct DegreeCarry {
-    pub whole: u64,
-    pub remainder: DegreeRemainder,
-}
+// Over the day divisor, N (小餘 over 日法). A type takes a number, not a constant's name.
+pub type DayRemainder = Remainder<208530>;
 
-impl DayRemainder {
-    // So many parts over N more: each whole N is a day, or a degree.
-    pub fn carry(self, parts: u64) -> DayCarry
-        requires { self.parts + parts < 18446744073709551616 }
-        ensures { result ≡ day_carry self parts }
+pub type DayCarry = Carry<208530>;
+
+// Over the degree divisor, D (小餘 over 蔀法).
+pub type DegreeRemainder = Remainder<16860>;
+
+pub type DegreeCarry = Carry<16860>;
+
+impl<const DIVISOR: u64> Remainder<DIVISOR> {
+    // So many parts more: each whole divisor is a day, or a degree.
+    pub fn carry(self, parts: u64) -> Carry<DIVISOR>
+        requires { (0 < DIVISOR) × (self.parts + parts < 18446744073709551616) }
+        ensures { result ≡ carry_over DIVISOR self.entry parts }
     {
         let sum = self.parts + parts;
-        DayCarry {
-            whole: sum / Xinghe::N,
-            remainder: DayRemainder {
-                parts: sum % Xinghe::N,
-            },
-        }
-    }
-}
-
-impl DegreeRemainder {
-    // So many parts over D more: each whole D is a day.
-    pub fn carry(self, parts: u64) -> DegreeCarry
-        requires { self.parts + parts < 18446744073709551616 }
-        ensures { result ≡ degree_carry self parts }
-    {
-        let sum = self.parts + parts;
-        DegreeCarry {
-            whole: sum / Xinghe::D,
-            remainder: DegreeRemainder {
-                parts: sum % Xinghe::D,
+        Carry {
+            whole: sum / DIVISOR,
+            remainder: Remainder {
+                parts: sum % DIVISOR,
             },
         }
     }
