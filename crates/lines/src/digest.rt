@@ -24,13 +24,9 @@ impl Digest {
 
     // Each of the bytes.
     pub fn feed_bytes(self, bytes: &[u8]) -> Self {
-        let mut fed = self;
-        let mut i = 0;
-        while i < bytes.len() {
-            fed = fed.feed(bytes[i] as u64);
-            i += 1;
-        }
-        fed
+        bytes
+            .iter()
+            .fold(self, |fed, &byte| fed.feed(u64::from(byte)))
     }
 
     // Both sums of another digest, the first one first.
