@@ -12,6 +12,7 @@ use native.Mathlib.Omega.{arith}
 use borrow.Author.Tests.{ltb-true}
 use lib.Dec.{eqb}
 use lib.ListN.{length, length-append}
+use Rattle.std.specs.declared.ops.ControlFlow.TheVariants.{Break, Continue}
 use Rattle.reckoning.specs.Search.{pick}
 use Rattle.reckoning.proofs.Searches.{le_or_lt, below, beyond}
 use Rattle.refusal.specs.Numbers.{number_of}
@@ -26,7 +27,6 @@ use Rattle.year_text.specs.Decimal.{is_digit, all_digits, value_from, value}
 use Rattle.year_text.specs.Lines.{past_round, not_digits, read_of, fed, is_settled, line_of, year_of_line, stepped, year_or, asked}
 use Rattle.year_text.specs.Text.{field, head_line, row_lines, refused_word, text_for, text_of}
 use Rattle.year_text.specs.declared.reader.Reader.{Reader}
-use Rattle.year_text.specs.declared.reader.Step.{Step}
 use Rattle.year_text.proofs.Readings.{fed_read, line_year}
 use Rattle.year_text.proofs.Lengths.{field_length, head_length, lines_length}
 
@@ -109,7 +109,7 @@ read_line bs (c ∷ cs) = go (eqb c 10) (is_settled (fed (read_of bs) c)) refl (
     longer = append_assoc bs (c ∷ []) (line_of cs)
 
     go : (n t : Bool) → is_settled (fed (read_of bs) c) ≡ t → text_of (asked (read_of (bs ++ c ∷ [])) cs) ≡ text_of (year_of_line ((bs ++ c ∷ []) ++ line_of cs)) →
-        text_of (year_or (pick n (Step.Year (read_of bs).year) (pick t (Step.Year (fed (read_of bs) c).year) (Step.More (fed (read_of bs) c)))) after) ≡ text_of (year_of_line (bs ++ pick n [] (c ∷ line_of cs)))
+        text_of (year_or (pick n (Break (read_of bs).year) (pick t (Break (fed (read_of bs) c).year) (Continue (fed (read_of bs) c)))) after) ≡ text_of (year_of_line (bs ++ pick n [] (c ∷ line_of cs)))
     go true true e on = ended bs
     go true false e on = ended bs
     go false true e on = rw (fed_read bs c) (sym (settled_text (bs ++ c ∷ []) (line_of cs) (rw (fed_read bs c) at e)) ∙ ap (λ (l : List ℕ). text_of (year_of_line l)) longer)

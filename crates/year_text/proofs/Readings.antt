@@ -8,12 +8,13 @@ use native.Mathlib.Numerals.{add-one}
 use native.Mathlib.Omega.{arith}
 use lib.ListN.{length, get_or, drop, drop_of_length-le}
 use lib.Seq.{drop-cons}
+use Rattle.std.specs.declared.ops.ControlFlow.{ControlFlow}
+use Rattle.std.specs.declared.ops.ControlFlow.TheVariants.{Break, Continue}
 use Rattle.reckoning.specs.Search.{pick}
 use Rattle.reckoning.proofs.Searches.{below, beyond, inside}
 use Rattle.year_text.specs.Decimal.{is_digit, all_digits, value_from, value}
 use Rattle.year_text.specs.Lines.{past_round, not_digits, read_of, fed, year_of_line, stepped, year_or, asked}
 use Rattle.year_text.specs.declared.reader.Reader.{Reader}
-use Rattle.year_text.specs.declared.reader.Step.{Step}
 
 -- a byte more at the end
 pub all_more : (bs : List ℕ) (b : ℕ) → all_digits (bs ++ b ∷ []) ≡ (all_digits bs && is_digit b)
@@ -87,11 +88,11 @@ module _ (input : List ℕ) (s : Reader) (i : ℕ) (f : Sofar input s i) where
       let rest : drop i input ≡ get_or input i 0 ∷ drop (i + 1) input = rw (add-one i) (drop-cons input i 0 h) in
       ap (asked s) (sym rest) ∙ f.same
 
-  pub sofar_year : (y : ℕ) → i < length input → Step.Year y ≡ stepped s (get_or input i 0) → y ≡ asked (read_of []) input
-  sofar_year y h e = ap (λ (x : Step). year_or x (λ t. asked t (drop (i + 1) input))) e ∙ next h
+  pub sofar_year : (y : ℕ) → i < length input → Break y ≡ stepped s (get_or input i 0) → y ≡ asked (read_of []) input
+  sofar_year y h e = ap (λ (x : ControlFlow ℕ Reader). year_or x (λ t. asked t (drop (i + 1) input))) e ∙ next h
 
-  pub sofar_more : (t : Reader) → i < length input → Step.More t ≡ stepped s (get_or input i 0) → Sofar input t (i + 1)
-  sofar_more t h e = record { index = omega arith; same = ap (λ (x : Step). year_or x (λ u. asked u (drop (i + 1) input))) e ∙ next h }
+  pub sofar_more : (t : Reader) → i < length input → Continue t ≡ stepped s (get_or input i 0) → Sofar input t (i + 1)
+  sofar_more t h e = record { index = omega arith; same = ap (λ (x : ControlFlow ℕ Reader). year_or x (λ u. asked u (drop (i + 1) input))) e ∙ next h }
 
   pub sofar_end : length input ≤ i → s.year ≡ asked (read_of []) input
   unfolding asked

@@ -1,11 +1,12 @@
 -- The line that the year printer reads (01, "Cases at the edges").
 -- Assumes nothing.
 use Rattle.std.specs.Prelude.{Bool, true, false, not, ◌||◌, List, [], ◌∷◌, ℕ, suc, ◌+◌, ◌-◌, ◌*◌, min, eqb, ltb}
+use Rattle.std.specs.declared.ops.ControlFlow.{ControlFlow}
+use Rattle.std.specs.declared.ops.ControlFlow.TheVariants.{Break, Continue}
 use Rattle.reckoning.specs.Search.{pick}
 use Rattle.units.specs.Xinghe.{round_years}
 use Rattle.year_text.specs.Decimal.{is_digit, all_digits, value}
 use Rattle.year_text.specs.declared.reader.Reader.{Reader}
-use Rattle.year_text.specs.declared.reader.Step.{Step}
 
 -- the line ends at the first newline byte or at the end of the input
 unfoldable pub line_of : List ℕ → List ℕ
@@ -36,13 +37,13 @@ abbrev pub is_settled : Reader → Bool
 is_settled s = not s.valid || ltb round_years s.year
 
 -- what a byte more makes of a line: the year that it asks for, where it ends or is settled, or the state that reads on
-unfoldable pub stepped : Reader → ℕ → Step
-stepped s b = pick (eqb b 10) (Step.Year s.year) (pick (is_settled (fed s b)) (Step.Year (fed s b).year) (Step.More (fed s b)))
+unfoldable pub stepped : Reader → ℕ → ControlFlow ℕ Reader
+stepped s b = pick (eqb b 10) (Break s.year) (pick (is_settled (fed s b)) (Break (fed s b).year) (Continue (fed s b)))
 
 -- the year that an input asks for, read byte by byte from a state on; where the input ends, that of the bytes so far
-abbrev pub year_or : Step → (Reader → ℕ) → ℕ
-year_or (Step.Year y) f = y
-year_or (Step.More s) f = f s
+abbrev pub year_or : ControlFlow ℕ Reader → (Reader → ℕ) → ℕ
+year_or (Break y) f = y
+year_or (Continue s) f = f s
 
 unfoldable pub asked : Reader → List ℕ → ℕ
 asked s [] = s.year

@@ -2,6 +2,7 @@
 ghost use Rattle.std.specs.Prelude.{◌≡◌, [], ◌+◌, ◌*◌, ◌<◌, min};
 ghost use Rattle.year_text.specs.Lines.{past_round, not_digits, read_of, fed, is_settled, stepped, asked};
 
+use std::ops::ControlFlow;
 use units::Xinghe;
 
 // One past every year of the round, which stands for all that are past it.
@@ -13,13 +14,6 @@ pub struct Reader {
     pub valid: bool,
     // their number, or one past every year where it is more; 0 for a line with any other byte
     pub year: u64,
-}
-
-// What a byte more makes of a line: the year that it asks for, where it ends or is settled, or a reader of the next byte.
-#[derive(Clone, Copy)]
-pub enum Step {
-    Year(u64),
-    More(Reader),
 }
 
 impl Reader {
@@ -36,8 +30,7 @@ impl Reader {
     pub fn feed(self, byte: u8) -> Reader
         ensures { result ≡ fed self byte }
     {
-        let valid = self.valid;
-        if !valid {
+        if !self.valid {
             return self;
         }
         if byte < 48 {
@@ -48,7 +41,7 @@ impl Reader {
         }
         Reader {
             valid: true,
-            year: longer(self.year, (byte - 48) as u64),
+            year: longer(self.year, u64::from(byte - 48)),
         }
     }
 
@@ -56,20 +49,21 @@ impl Reader {
     pub fn settled(self) -> bool
         ensures { result ≡ is_settled self }
     {
-        !self.valid | (Xinghe::YEARS < self.year)
+        !self.valid || Xinghe::YEARS < self.year
     }
 
-    pub fn step(self, byte: u8) -> Step
+    // What a byte more makes of a line: the year that it asks for, where it ends or is settled, or a reader of the next byte.
+    pub fn step(self, byte: u8) -> ControlFlow<u64, Reader>
         ensures { result ≡ stepped self byte }
     {
         if byte == b'\n' {
-            return Step::Year(self.year);
+            return ControlFlow::Break(self.year);
         }
         let next = self.feed(byte);
         if next.settled() {
-            return Step::Year(next.year);
+            return ControlFlow::Break(next.year);
         }
-        Step::More(next)
+        ControlFlow::Continue(next)
     }
 }
 
@@ -90,12 +84,7 @@ fn longer(year: u64, digit: u64) -> u64
     if PAST_ROUND / 10 < year {
         return PAST_ROUND;
     }
-    let number = 10 * year + digit;
-    if number <= PAST_ROUND {
-        number
-    } else {
-        PAST_ROUND
-    }
+    PAST_ROUND.min(10 * year + digit)
 }
 
 // The year that an input asks for, byte by byte, as the printer reads it.
@@ -103,13 +92,10 @@ pub fn year_asked(input: &[u8]) -> u64
     ensures { result ≡ asked (read_of []) input.now }
 {
     let mut reader = Reader::new();
-    let mut i = 0;
-    while i < input.len() {
-        let byte = input[i];
-        i += 1;
+    for &byte in input {
         match reader.step(byte) {
-            Step::Year(year) => return year,
-            Step::More(next) => reader = next,
+            ControlFlow::Break(year) => return year,
+            ControlFlow::Continue(next) => reader = next,
         }
     }
     reader.year
