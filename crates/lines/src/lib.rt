@@ -1,11 +1,14 @@
-// Lines of output for the programs cases and survey, and digests of what they are about. A line is built by value and written by one system call, since a call for each number would take most of the run.
+// Lines of output for the programs cases and survey, digests of what they are about, and the answers that go onto either. A line is built by value and written by one system call, since a call for each number would take most of the run.
 #![tactic(auto)]
 
 use arrayvec::ArrayVec;
 use refusal::{Numbered, Refusal};
 use std::io::{self, Write};
 
+pub mod answers;
+pub mod calendars;
 pub mod digest;
+pub mod sink;
 
 // Room for the longest line, which has 276 bytes, and its end. What does not fit is left out, so that building a line asks nothing of its caller.
 const ROOM: usize = 288;
