@@ -2,6 +2,7 @@
 use crate::sink::Sink;
 use anomaly::{Anomaly, Corrected, Corrections};
 use calendar::{MonthRow, YearHead};
+use lunisolar::dates::{Date, Day};
 use mean_calendar::{MeanHead, MeanMonth, MeanPoint};
 use moon::phases::{Phase, Phases};
 use node::{Distance, Eclipse, Node, Nodes, Side};
@@ -31,6 +32,14 @@ pub fn head<S: Sink>(sink: S, head: YearHead) -> S {
 // A row is handed to others as the numbers of its fields.
 pub fn row<S: Sink>(sink: S, row: MonthRow) -> S {
     numbers(sink, &row.fields())
+}
+
+pub fn date<S: Sink>(sink: S, date: Date) -> S {
+    sink.number(date.year).number(date.place).number(date.day)
+}
+
+pub fn day<S: Sink>(sink: S, day: Day) -> S {
+    sink.number(day.number).number(day.sexagenary)
 }
 
 fn phase<S: Sink>(sink: S, phase: Phase) -> S {

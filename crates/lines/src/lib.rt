@@ -55,4 +55,19 @@ impl Line {
     pub fn refuse(self, rt: &impl Print, refusal: Refusal) -> io::Result<()> {
         self.text(b" refused").number(refusal.number()).write(rt)
     }
+
+    // Writes the question with its answer as `with` puts it on the line, or with the number of its refusal.
+    pub fn answer<T, F: FnOnce(Line, T) -> Line>(
+        self,
+        rt: &impl Print,
+        answer: Result<T, Refusal>,
+        with: F,
+    ) -> io::Result<()>
+        requires { F.IsAlwaysCallable with }
+    {
+        match answer {
+            Ok(value) => with(self, value).write(rt),
+            Err(refusal) => self.refuse(rt, refusal),
+        }
+    }
 }
