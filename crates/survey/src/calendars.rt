@@ -40,12 +40,7 @@ pub fn feed_cut<C: Calendar>(digest: Digest, year: u64, cut: u64) -> Digest {
 fn feed_day<C: Calendar>(digest: Digest, month: MeanMonth, past: u64) -> Digest {
     let date = C::date_of_day(month.day.wrapping_add(past)).unwrap_or_default();
     let day = C::day_of_date(month.year, month.place, past.wrapping_add(1)).unwrap_or_default();
-    digest
-        .feed(date.year)
-        .feed(date.place)
-        .feed(date.day)
-        .feed(day.number)
-        .feed(day.sexagenary)
+    answers::day(answers::date(digest, date), day)
 }
 
 // Every day of a month.
