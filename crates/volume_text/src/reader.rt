@@ -19,12 +19,10 @@ impl SpanReader {
     pub fn new() -> SpanReader
         ensures { result ≡ span_read [] }
     {
-        let first = Reader::new();
-        let last = Reader::new();
         SpanReader {
             blank: false,
-            first,
-            last,
+            first: Reader::new(),
+            last: Reader::new(),
         }
     }
 
@@ -32,28 +30,21 @@ impl SpanReader {
     pub fn feed(self, byte: u8) -> SpanReader
         ensures { result ≡ span_fed self byte }
     {
-        let first = self.first;
-        let last = self.last;
         if self.blank {
-            let last = last.feed(byte);
             return SpanReader {
-                blank: true,
-                first,
-                last,
+                last: self.last.feed(byte),
+                ..self
             };
         }
         if byte == b' ' {
             return SpanReader {
                 blank: true,
-                first,
-                last,
+                ..self
             };
         }
-        let first = first.feed(byte);
         SpanReader {
-            blank: false,
-            first,
-            last,
+            first: self.first.feed(byte),
+            ..self
         }
     }
 
@@ -61,17 +52,13 @@ impl SpanReader {
     pub fn settled(self) -> bool
         ensures { result ≡ span_settled self }
     {
-        let first = self.first;
-        let last = self.last;
-        first.settled() | last.settled()
+        self.first.settled() || self.last.settled()
     }
 
     // How many years the line asks for.
     pub fn span(self) -> Result<u64, Refusal>
         ensures { result ≡ span_answer self.first.year self.last.year }
     {
-        let first = self.first;
-        let last = self.last;
-        volumes::writer::span(first.year, last.year)
+        volumes::writer::span(self.first.year, self.last.year)
     }
 }

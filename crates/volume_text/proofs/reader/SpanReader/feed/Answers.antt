@@ -4,7 +4,7 @@ use Rattle.volume_text.proofs.reader.SpanReader.feed.Goals as goal
 
 pub returns-then-self : goal.returns-then-self
 unfolding span_fed
-returns-then-self c = rw (c.if-self.true, c.feed-last.ensures)
+returns-then-self c = rw (c.if-self.true, c.feed.ensures)
 
 pub returns-then-byte-eq32 : goal.returns-then-byte-eq32
 unfolding span_fed
@@ -12,4 +12,4 @@ returns-then-byte-eq32 c = rw (c.if-self.false, eq-eqb c.args.byte 32 c.if-byte-
 
 pub returns : goal.returns
 unfolding span_fed
-returns c = rw (c.if-self.false, ne_eqb c.args.byte 32 c.if-byte-eq32.false, c.feed-first.ensures)
+returns c = rw (c.if-self.false, ne_eqb c.args.byte 32 c.if-byte-eq32.false, c.feed-2.ensures)
