@@ -15,7 +15,7 @@ use Rattle.units.specs.Xinghe.{round_years, is_year}
 use Rattle.volumes.specs.Writer.{span_answer}
 use Rattle.volumes.proofs.Runs.{year_high}
 use Rattle.year_text.specs.Decimal.{all_digits, value_from}
-use Rattle.year_text.specs.Lines.{past_round, read_of, fed, is_settled, year_of_line}
+use Rattle.year_text.specs.Lines.{past_round, read_of, year_read, fed, is_settled, year_of_line}
 use Rattle.year_text.proofs.Readings.{fed_read, line_year}
 use Rattle.year_text.proofs.Fits.{settled_none}
 use Rattle.volume_text.specs.Lines.{before_blank, after_blank, has_blank, span_of_line, span_read, span_fed, span_settled}
@@ -97,7 +97,7 @@ capped a b =
     (le_or_lt a round_years)
 
 -- A LINE'S SPAN: the reader ends with the years whose span the line asks for
-pub span_line : (bs : List ℕ) → span_answer (span_read bs).first.year (span_read bs).last.year ≡ span_of_line bs
+pub span_line : (bs : List ℕ) → span_answer (year_read (span_read bs).first) (year_read (span_read bs).last) ≡ span_of_line bs
 unfolding span_read
 span_line bs = rw (line_year (before_blank bs), line_year (after_blank bs)) (capped (year_of_line (before_blank bs)) (year_of_line (after_blank bs)))
 

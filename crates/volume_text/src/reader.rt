@@ -1,6 +1,7 @@
 // Reading a line with a first and a last year, fed one byte at a time, in fixed memory.
 ghost use Rattle.std.specs.Prelude.{◌≡◌, []};
 ghost use Rattle.volumes.specs.Writer.{span_answer};
+ghost use Rattle.year_text.specs.Lines.{year_read};
 ghost use Rattle.volume_text.specs.Lines.{span_read, span_fed, span_settled};
 
 use refusal::Refusal;
@@ -57,8 +58,8 @@ impl SpanReader {
 
     // How many years the line asks for.
     pub fn span(self) -> Result<u64, Refusal>
-        ensures { result ≡ span_answer self.first.year self.last.year }
+        ensures { result ≡ span_answer (year_read self.first) (year_read self.last) }
     {
-        volumes::writer::span(self.first.year, self.last.year)
+        volumes::writer::span(self.first.year(), self.last.year())
     }
 }

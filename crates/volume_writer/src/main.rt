@@ -38,7 +38,7 @@ fn write_blocks(rt: &impl Print, first: u64, n: u64) -> io::Result<()>
 fn main(rt: HostRuntime) -> io::Result<()> {
     let reader = read_span(rt.stdin());
     match reader.span() {
-        Ok(n) => write_blocks(&rt, reader.first.year, n),
+        Ok(n) => write_blocks(&rt, reader.first.year(), n),
         Err(e) => {
             let mut line = [0u8; 64];
             let n = volume_text::writer::render(Err(e), &mut line);

@@ -22,7 +22,7 @@ fn read_year<R: Read + Drop>(input: R) -> u64 {
             ControlFlow::Continue(next) => reader = next,
         }
     }
-    reader.year
+    reader.year()
 }
 
 fn main(rt: HostRuntime) -> io::Result<()> {

@@ -1,6 +1,6 @@
 // Reading a line, fed one byte at a time, in fixed memory.
 ghost use Rattle.std.specs.Prelude.{◌≡◌, [], ◌+◌, ◌*◌, ◌<◌, min};
-ghost use Rattle.year_text.specs.Lines.{past_round, not_digits, read_of, fed, is_settled, stepped, asked};
+ghost use Rattle.year_text.specs.Lines.{past_round, not_digits, read_of, year_read, fed, is_settled, stepped, asked};
 
 use std::ops::ControlFlow;
 use units::Xinghe;
@@ -10,29 +10,24 @@ const PAST_ROUND: u64 = Xinghe::YEARS + 1;
 
 #[derive(Clone, Copy)]
 pub struct Reader {
-    // every byte so far was a digit
-    pub valid: bool,
-    // their number, or one past every year where it is more; 0 for a line with any other byte
-    pub year: u64,
+    // the number of the line's digits, or one past every year where it is more; none, once any other byte has come
+    pub number: Option<u64>,
 }
 
 impl Reader {
     pub fn new() -> Reader
         ensures { result ≡ read_of [] }
     {
-        Reader {
-            valid: true,
-            year: 0,
-        }
+        Reader { number: Some(0) }
     }
 
     // One byte more of the line, whatever the bytes before it were.
     pub fn feed(self, byte: u8) -> Reader
         ensures { result ≡ fed self byte }
     {
-        if !self.valid {
+        let Some(number) = self.number else {
             return self;
-        }
+        };
         if byte < 48 {
             return refused();
         }
@@ -40,8 +35,7 @@ impl Reader {
             return refused();
         }
         Reader {
-            valid: true,
-            year: longer(self.year, u64::from(byte - 48)),
+            number: Some(longer(number, u64::from(byte - 48))),
         }
     }
 
@@ -49,7 +43,17 @@ impl Reader {
     pub fn settled(self) -> bool
         ensures { result ≡ is_settled self }
     {
-        !self.valid || Xinghe::YEARS < self.year
+        match self.number {
+            Some(number) => Xinghe::YEARS < number,
+            None => true,
+        }
+    }
+
+    // The year that the line asks for, where it ends here: 0, which is no year, where it has any byte but a digit.
+    pub fn year(self) -> u64
+        ensures { result ≡ year_read self }
+    {
+        self.number.unwrap_or(0)
     }
 
     // What a byte more makes of a line: the year that it asks for, where it ends or is settled, or a reader of the next byte.
@@ -57,11 +61,11 @@ impl Reader {
         ensures { result ≡ stepped self byte }
     {
         if byte == b'\n' {
-            return ControlFlow::Break(self.year);
+            return ControlFlow::Break(self.year());
         }
         let next = self.feed(byte);
         if next.settled() {
-            return ControlFlow::Break(next.year);
+            return ControlFlow::Break(next.year());
         }
         ControlFlow::Continue(next)
     }
@@ -70,10 +74,7 @@ impl Reader {
 fn refused() -> Reader
     ensures { result ≡ not_digits }
 {
-    Reader {
-        valid: false,
-        year: 0,
-    }
+    Reader { number: None }
 }
 
 // A number with a digit more at its end, but at the most one past every year.
@@ -98,5 +99,5 @@ pub fn year_asked(input: &[u8]) -> u64
             ControlFlow::Continue(next) => reader = next,
         }
     }
-    reader.year
+    reader.year()
 }

@@ -15,4 +15,4 @@ loop-byte-preserved c =
 
 pub returns : goal.returns
 returns c =
-    sofar_end c.args.input.now c.loop-byte.reader c.loop-byte.byte-index c.loop-byte.invariant (omega arith)
+    c.year.ensures ∙ sofar_end c.args.input.now c.loop-byte.reader c.loop-byte.byte-index c.loop-byte.invariant (omega arith)
