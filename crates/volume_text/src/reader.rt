@@ -2,18 +2,17 @@
 ghost use Rattle.std.specs.Prelude.{◌≡◌, []};
 ghost use Rattle.volumes.specs.Writer.{span_answer};
 ghost use Rattle.year_text.specs.Lines.{year_read};
-ghost use Rattle.volume_text.specs.Lines.{span_read, span_fed, span_settled};
+ghost use Rattle.volume_text.specs.Lines.{span_read, last_year, span_fed, span_settled};
 
 use refusal::Refusal;
 use year_text::reader::Reader;
 
 #[derive(Clone, Copy)]
 pub struct SpanReader {
-    // a blank has come
-    pub blank: bool,
-    // what stands before it, and after it
+    // what stands before the first blank
     pub first: Reader,
-    pub last: Reader,
+    // what stands after it, once it has come
+    pub last: Option<Reader>,
 }
 
 impl SpanReader {
@@ -21,9 +20,8 @@ impl SpanReader {
         ensures { result ≡ span_read [] }
     {
         SpanReader {
-            blank: false,
             first: Reader::new(),
-            last: Reader::new(),
+            last: None,
         }
     }
 
@@ -31,15 +29,15 @@ impl SpanReader {
     pub fn feed(self, byte: u8) -> SpanReader
         ensures { result ≡ span_fed self byte }
     {
-        if self.blank {
+        if let Some(last) = self.last {
             return SpanReader {
-                last: self.last.feed(byte),
+                last: Some(last.feed(byte)),
                 ..self
             };
         }
         if byte == b' ' {
             return SpanReader {
-                blank: true,
+                last: Some(Reader::new()),
                 ..self
             };
         }
@@ -53,13 +51,14 @@ impl SpanReader {
     pub fn settled(self) -> bool
         ensures { result ≡ span_settled self }
     {
-        self.first.settled() || self.last.settled()
+        self.first.settled() || self.last.is_some_and(|last| last.settled())
     }
 
-    // How many years the line asks for.
+    // How many years the line asks for; without a blank none, since no year is 0.
     pub fn span(self) -> Result<u64, Refusal>
-        ensures { result ≡ span_answer (year_read self.first) (year_read self.last) }
+        ensures { result ≡ span_answer (year_read self.first) (last_year self) }
     {
-        volumes::writer::span(self.first.year(), self.last.year())
+        let last = self.last.map_or(0, |last| last.year());
+        volumes::writer::span(self.first.year(), last)
     }
 }
