@@ -1,37 +1,23 @@
 // A year's rows in a lent list: too short, just long enough, and longer than the year.
 ghost use Rattle.std.specs.Prelude.{◌≤◌};
 
-use crate::fields;
 use calendar::MonthRow;
-use lines::Line;
-use std::io;
+use lines::{Line, answers};
+use std::{array, io};
 
 // A row that no year has, by which a row that was not written is known.
-fn marked(i: u64) -> MonthRow {
-    let mut row = MonthRow::default();
-    row.lunation = std::num::wrapping_add_u64(1000, i);
-    row
-}
-
-fn marked_rows() -> [MonthRow; 13] {
-    let mut rows = [MonthRow::default(); 13];
-    let mut i: usize = 0;
-    while i < 13 {
-        rows[i] = marked(i as u64);
-        i += 1;
+fn marked(i: usize) -> MonthRow {
+    MonthRow {
+        lunation: (i as u64).wrapping_add(1000),
+        ..MonthRow::default()
     }
-    rows
 }
 
 // The lent rows as they are afterwards.
-fn write_lent(rt: &impl Print, rows: [MonthRow; 13], have: usize) -> io::Result<()>
-    requires { have ≤ 13 }
-{
-    let mut i = 0;
-    while i < have {
-        let row = rows[i];
-        fields::with_row(Line::new().text(b"lent").number(i as u64), row).write(rt)?;
-        i += 1;
+fn write_lent(rt: &impl Print, rows: &[MonthRow]) -> io::Result<()> {
+    for (i, &row) in rows.iter().enumerate() {
+        let line = Line::new().text(b"lent").number(i as u64);
+        answers::row(line, row).write(rt)?;
     }
     Ok(())
 }
@@ -44,7 +30,8 @@ fn ask_fill(rt: &impl Print, year: u64, have: usize) -> io::Result<()>
         Ok(count) => line.number(count).write(rt)?,
         Err(refusal) => line.refuse(rt, refusal)?,
     }
-    write_lent(rt, year_list::fill_front(marked_rows(), have, year), have)
+    let rows = year_list::fill_front(array::from_fn(marked), have, year);
+    write_lent(rt, &rows[..have])
 }
 
 pub fn ask_fills(rt: &impl Print) -> io::Result<()> {

@@ -1,10 +1,9 @@
 // The cases: full answers for chosen years, then refusals and edges, of the calendar and then of the Zhengguang and the Linde calendar, in the lines that the independent second program writes.
 #![tactic(auto)]
 
+mod asked;
 mod edges;
-mod fields;
 mod linde_edges;
-mod linde_questions;
 mod lists;
 mod mean_questions;
 mod mending_edges;
@@ -15,7 +14,6 @@ mod reign_edges;
 mod volume_edges;
 mod years;
 mod zhengguang_edges;
-mod zhengguang_questions;
 
 use std::io;
 

@@ -4,8 +4,8 @@ ghost use Rattle.std.specs.Prelude.{◌≡◌, ◌+◌, ◌*◌, ◌<◌, ◌≤
 use crate::volume_edges;
 use crate::volume_edges::{BUFFER, WHOLE};
 use blocks::BLOCK;
-use lines::Line;
 use lines::digest::Digest;
+use lines::{Line, answers};
 use mending::MOST_BLOCKS;
 use refusal::Refusal;
 use std::io;
@@ -18,11 +18,7 @@ fn copy_block(buffer: &mut [u8], from: usize, to: usize)
     requires { (from < 4) × (to < 4) × (length buffer.old ≡ 2048) }
     ensures { length buffer.new ≡ 2048 }
 {
-    let mut i = 0;
-    while i < BLOCK {
-        buffer[BLOCK * to + i] = buffer[BLOCK * from + i];
-        i += 1;
-    }
+    buffer.copy_within(BLOCK * from..BLOCK * (from + 1), BLOCK * to);
 }
 
 // A volume with a block that is a copy of another, and then a byte altered.
@@ -79,18 +75,10 @@ fn ask_mend(
     let mut list = [LENT; MOST_BLOCKS];
     let begin = BLOCK * start;
     let answer = mend_part(&mut buffer, begin, begin + length, &mut list);
-    match answer {
-        Ok(n) => {
-            line.number(n)
-                .number(list[0])
-                .number(list[1])
-                .number(list[2])
-                .number(list[3])
-                .number(Digest::new().feed_bytes(&buffer).value())
-                .write(rt)
-        }
-        Err(e) => line.refuse(rt, e),
-    }
+    let digest = Digest::new().feed_bytes(&buffer);
+    line.answer(rt, answer, |line, n| {
+        answers::numbers(line.number(n), &list[..4]).number(digest.value())
+    })
 }
 
 fn ask_whole(rt: &impl Print) -> io::Result<()> {

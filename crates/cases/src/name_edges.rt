@@ -1,6 +1,6 @@
 // Day names: every day of the sixty from either list, then lists of lengths at the edge and what is refused.
 use lines::Line;
-use std::io;
+use std::{array, io};
 
 // One byte more than a list of sixty names has.
 const LENT: usize = 361;
@@ -9,28 +9,17 @@ type Lent = [u8; LENT];
 
 // Signs from ! to y that go round by 89, so that no name is like another.
 fn their_names() -> Lent {
-    let mut lent = [0u8; LENT];
-    let mut i = 0;
-    while i < LENT {
-        lent[i] = b'!' + (i % 89) as u8;
-        i += 1;
-    }
-    lent
+    array::from_fn(|i| b'!' + (i % 89) as u8)
 }
 
 // The stem and branch names, and what stands after them.
 fn house_names() -> Lent {
-    let names = names::ganzhi::names();
     let mut lent = [b'.'; LENT];
-    let mut i = 0;
-    while i < 360 {
-        lent[i] = names[i];
-        i += 1;
-    }
+    lent[..360].copy_from_slice(&names::ganzhi::names());
     lent
 }
 
-fn ask_label<'a>(rt: &impl Print, day: u64, theirs: &'a [u8], house: &'a [u8]) -> io::Result<()> {
+fn ask_label(rt: &impl Print, day: u64, theirs: &[u8], house: &[u8]) -> io::Result<()> {
     let line = Line::new()
         .text(b"label")
         .number(day)
@@ -47,21 +36,19 @@ fn ask_label<'a>(rt: &impl Print, day: u64, theirs: &'a [u8], house: &'a [u8]) -
 }
 
 // The sixty days, the one before and the one after.
-fn ask_round<'a>(rt: &impl Print, theirs: &'a [u8], house: &'a [u8]) -> io::Result<()> {
-    let mut day = 0;
-    while day <= 61 {
+fn ask_round(rt: &impl Print, theirs: &[u8], house: &[u8]) -> io::Result<()> {
+    for day in 0..=61 {
         ask_label(rt, day, theirs, house)?;
-        day += 1;
     }
     Ok(())
 }
 
-fn ask_ends<'a>(rt: &impl Print, theirs: &'a [u8], house: &'a [u8]) -> io::Result<()> {
+fn ask_ends(rt: &impl Print, theirs: &[u8], house: &[u8]) -> io::Result<()> {
     ask_label(rt, 1, theirs, house)?;
     ask_label(rt, 60, theirs, house)
 }
 
-fn ask_refused<'a>(rt: &impl Print, theirs: &'a [u8], house: &'a [u8]) -> io::Result<()> {
+fn ask_refused(rt: &impl Print, theirs: &[u8], house: &[u8]) -> io::Result<()> {
     ask_label(rt, 0, theirs, house)?;
     ask_ends(rt, theirs, house)?;
     ask_label(rt, 61, theirs, house)?;

@@ -1,70 +1,45 @@
 // The planets: conjunctions of the years at the edges, the stages, and what is refused.
-use lines::Line;
-use planets::{Conjunction, Stage, TwoConjunctions};
+use lines::{Line, answers};
+use planets::Stage;
 use refusal::Numbered;
 use std::io;
-
-fn with_conjunction(line: Line, conjunction: Conjunction) -> Line {
-    let time = conjunction.time;
-    let rest = time.remainder;
-    let since = conjunction.since;
-    let over = since.remainder;
-    let kind = conjunction.kind;
-    line.number(time.whole)
-        .number(rest.parts)
-        .number(since.whole)
-        .number(over.parts)
-        .number(kind.number())
-}
-
-fn with_conjunctions(line: Line, conjunctions: TwoConjunctions) -> Line {
-    let first = conjunctions.first;
-    let second = conjunctions.second;
-    with_conjunction(with_conjunction(line, first), second)
-}
 
 fn ask_conjunctions(rt: &impl Print, year: u64, planet: u64) -> io::Result<()> {
     let line = Line::new()
         .text(b"conjunctions")
         .number(year)
         .number(planet);
-    match planets::conjunctions(year, planet) {
-        Ok(two) => with_conjunctions(line, two).write(rt),
-        Err(refusal) => line.refuse(rt, refusal),
-    }
+    line.answer(
+        rt,
+        planets::conjunctions(year, planet),
+        answers::conjunctions,
+    )
 }
 
 fn ask_all(rt: &impl Print, year: u64) -> io::Result<()> {
-    ask_conjunctions(rt, year, 1)?;
-    ask_conjunctions(rt, year, 2)?;
-    ask_conjunctions(rt, year, 3)?;
-    ask_conjunctions(rt, year, 4)?;
-    ask_conjunctions(rt, year, 5)
+    for planet in 1..=5 {
+        ask_conjunctions(rt, year, planet)?;
+    }
+    Ok(())
 }
 
 fn with_stage(line: Line, stage: Stage) -> Line {
-    let rest = stage.remainder;
-    let over = stage.excess;
-    let kind = stage.kind;
-    let apparition = stage.apparition;
     line.number(stage.days)
-        .number(rest.parts)
+        .number(stage.remainder.parts)
         .signed(stage.degrees)
-        .number(over.parts)
+        .number(stage.excess.parts)
         .number(stage.whole)
         .number(stage.numerator)
         .number(stage.denominator)
-        .number(kind.number())
-        .number(apparition.number())
+        .number(stage.kind.number())
+        .number(stage.apparition.number())
 }
 
 // Every place of the answer: those that no stage takes are zero.
 fn write_stages(rt: &impl Print, planet: u64, stages: [Stage; 14]) -> io::Result<()> {
-    let mut i = 0;
-    while i < 14 {
+    for (i, &stage) in stages.iter().enumerate() {
         let line = Line::new().text(b"stage").number(planet).number(i as u64);
-        with_stage(line, stages[i]).write(rt)?;
-        i += 1;
+        with_stage(line, stage).write(rt)?;
     }
     Ok(())
 }
@@ -72,12 +47,10 @@ fn write_stages(rt: &impl Print, planet: u64, stages: [Stage; 14]) -> io::Result
 fn ask_stages(rt: &impl Print, planet: u64) -> io::Result<()> {
     let line = Line::new().text(b"stages").number(planet);
     let answer = planets::stages(planet);
-    let stages = answer.stages;
-    let counted = answer.count;
-    match counted {
+    match answer.count {
         Ok(count) => {
             line.number(count).write(rt)?;
-            write_stages(rt, planet, stages)
+            write_stages(rt, planet, answer.stages)
         }
         Err(refusal) => line.refuse(rt, refusal),
     }

@@ -3,11 +3,10 @@ ghost use Rattle.std.specs.Prelude.{◌<◌};
 ghost use Rattle.units.specs.Xinghe.{round_months};
 ghost use Rattle.calendar.specs.Rows.{field_count};
 
-use crate::fields;
 use calendar::MonthRow;
 use calendar::rows::FIELDS;
-use lines::Line;
-use lunisolar::dates::Date;
+use lines::{Line, answers};
+use lunisolar::dates::Day;
 use refusal::Refusal;
 use std::io;
 use units::remainder::DayRemainder;
@@ -18,54 +17,34 @@ fn asked_of_month(question: &[u8], year: u64, place: u64) -> Line {
 
 pub fn ask_head(rt: &impl Print, year: u64) -> io::Result<()> {
     let line = Line::new().text(b"head").number(year);
-    match calendar::heads::year_head(year) {
-        Ok(head) => fields::with_head(line, head).write(rt),
-        Err(refusal) => line.refuse(rt, refusal),
-    }
+    line.answer(rt, calendar::heads::year_head(year), answers::head)
 }
 
+// A row with the day of the sixty on which its month begins.
 pub fn ask_row(rt: &impl Print, year: u64, place: u64) -> io::Result<()> {
     let line = asked_of_month(b"row", year, place);
-    match calendar::rows::month_row(year, place) {
-        Ok(row) => fields::with_row(line, row)
-            .number(lunisolar::sixty::sexagenary(row.day))
-            .write(rt),
-        Err(refusal) => line.refuse(rt, refusal),
-    }
+    line.answer(rt, calendar::rows::month_row(year, place), |line, row| {
+        answers::row(line, row).number(lunisolar::sixty::sexagenary(row.day))
+    })
 }
 
 pub fn ask_phases(rt: &impl Print, year: u64, place: u64) -> io::Result<()> {
     let line = asked_of_month(b"phases", year, place);
-    match ephemeris::phases(year, place) {
-        Ok(phases) => fields::with_phases(line, phases).write(rt),
-        Err(refusal) => line.refuse(rt, refusal),
-    }
+    line.answer(rt, ephemeris::phases(year, place), answers::phases)
 }
 
 pub fn ask_nodes(rt: &impl Print, year: u64, place: u64) -> io::Result<()> {
     let line = asked_of_month(b"nodes", year, place);
-    match ephemeris::nodes(year, place) {
-        Ok(nodes) => {
-            let new = nodes.new;
-            let side = nodes.side;
-            let full = nodes.full;
-            fields::with_full_moon_node(fields::with_new_moon_node(line, new, side), full).write(rt)
-        }
-        Err(refusal) => line.refuse(rt, refusal),
-    }
+    line.answer(rt, ephemeris::nodes(year, place), answers::nodes)
 }
 
 pub fn ask_corrections(rt: &impl Print, year: u64, place: u64) -> io::Result<()> {
     let line = asked_of_month(b"corrections", year, place);
-    match ephemeris::corrections(year, place) {
-        Ok(corrections) => {
-            let new = corrections.new;
-            let full = corrections.full;
-            let with_new = fields::with_new_moon_correction(line, new);
-            fields::with_full_moon_correction(with_new, full).write(rt)
-        }
-        Err(refusal) => line.refuse(rt, refusal),
-    }
+    line.answer(
+        rt,
+        ephemeris::corrections(year, place),
+        answers::corrections,
+    )
 }
 
 pub fn ask_cut(rt: &impl Print, year: u64, cut: u64, index: u64) -> io::Result<()> {
@@ -74,49 +53,40 @@ pub fn ask_cut(rt: &impl Print, year: u64, cut: u64, index: u64) -> io::Result<(
         .number(year)
         .number(cut)
         .number(index);
-    match ephemeris::cut_point(year, cut, index) {
-        Ok(point) => fields::with_point(line, point).write(rt),
-        Err(refusal) => line.refuse(rt, refusal),
-    }
+    line.answer(rt, ephemeris::cut_point(year, cut, index), answers::point)
+}
+
+// A day: its number, its day of the sixty, and its stem and branch.
+fn with_day(line: Line, day: Day) -> Line {
+    let house = names::ganzhi::names();
+    answers::day(line, day)
+        .byte(b' ')
+        .text(names::label(day.sexagenary, b"", &house))
 }
 
 pub fn ask_day(rt: &impl Print, year: u64, place: u64, day: u64) -> io::Result<()> {
     let line = asked_of_month(b"day", year, place).number(day);
-    match calendar::dates::day_of_date(year, place, day) {
-        Ok(found) => fields::with_day(line, found).write(rt),
-        Err(refusal) => line.refuse(rt, refusal),
-    }
-}
-
-// Every calendar answers a date alike.
-pub fn write_date(rt: &impl Print, line: Line, answer: Result<Date, Refusal>) -> io::Result<()> {
-    match answer {
-        Ok(date) => line
-            .number(date.year)
-            .number(date.place)
-            .number(date.day)
-            .write(rt),
-        Err(refusal) => line.refuse(rt, refusal),
-    }
+    line.answer(rt, calendar::dates::day_of_date(year, place, day), with_day)
 }
 
 pub fn ask_date(rt: &impl Print, number: u64) -> io::Result<()> {
     let line = Line::new().text(b"date").number(number);
-    write_date(rt, line, calendar::dates::date_of_day(number))
+    line.answer(rt, calendar::dates::date_of_day(number), answers::date)
 }
 
-fn write_carried(rt: &impl Print, line: Line, answer: Result<MonthRow, Refusal>) -> io::Result<()> {
-    match answer {
-        Ok(row) => fields::with_row(line.text(b" ->"), row).write(rt),
-        Err(refusal) => line.refuse(rt, refusal),
-    }
+fn with_carried(line: Line, row: MonthRow) -> Line {
+    answers::row(line.text(b" ->"), row)
 }
 
 pub fn ask_carry(rt: &impl Print, lunation: u64, count: i64) -> io::Result<()>
     requires { lunation < round_months }
 {
     let line = Line::new().text(b"carry").number(lunation).signed(count);
-    write_carried(rt, line, calendar::rows::row_of(lunation).carry(count))
+    line.answer(
+        rt,
+        calendar::rows::row_of(lunation).carry(count),
+        with_carried,
+    )
 }
 
 // The month after, and the month before.
@@ -124,21 +94,18 @@ pub fn ask_next(rt: &impl Print, lunation: u64) -> io::Result<()>
     requires { lunation < round_months }
 {
     let line = Line::new().text(b"next").number(lunation);
-    write_carried(rt, line, calendar::rows::row_of(lunation).next())
+    line.answer(rt, calendar::rows::row_of(lunation).next(), with_carried)
 }
 
 pub fn ask_back(rt: &impl Print, lunation: u64) -> io::Result<()>
     requires { lunation < round_months }
 {
     let line = Line::new().text(b"back").number(lunation);
-    write_carried(rt, line, calendar::rows::row_of(lunation).back())
+    line.answer(rt, calendar::rows::row_of(lunation).back(), with_carried)
 }
 
 fn write_forged(rt: &impl Print, line: Line, answer: Result<MonthRow, Refusal>) -> io::Result<()> {
-    match answer {
-        Ok(_) => line.text(b" taken").write(rt),
-        Err(refusal) => line.refuse(rt, refusal),
-    }
+    line.answer(rt, answer, |line, _| line.text(b" taken"))
 }
 
 // A row with one number changed, which no carry may take.
@@ -146,7 +113,7 @@ fn ask_forged(rt: &impl Print, lunation: u64, field: usize, count: i64) -> io::R
     requires { (lunation < round_months) × (field < field_count) }
 {
     let mut numbers = calendar::rows::row_of(lunation).fields();
-    numbers[field] = std::num::wrapping_add_u64(numbers[field], 1);
+    numbers[field] = numbers[field].wrapping_add(1);
     let line = Line::new()
         .text(b"forged")
         .number(lunation)
@@ -158,10 +125,8 @@ fn ask_forged(rt: &impl Print, lunation: u64, field: usize, count: i64) -> io::R
 pub fn ask_forged_fields(rt: &impl Print, lunation: u64, count: i64) -> io::Result<()>
     requires { lunation < round_months }
 {
-    let mut field = 0;
-    while field < FIELDS {
+    for field in 0..FIELDS {
         ask_forged(rt, lunation, field, count)?;
-        field += 1;
     }
     Ok(())
 }
@@ -170,13 +135,13 @@ pub fn ask_forged_fields(rt: &impl Print, lunation: u64, count: i64) -> io::Resu
 fn forged_row(lunation: u64) -> MonthRow
     requires { lunation < round_months }
 {
-    let mut row = calendar::rows::row_of(lunation);
-    let remainder = row.remainder;
-    let changed = DayRemainder {
-        parts: std::num::wrapping_add_u64(remainder.parts, 1),
-    };
-    row.remainder = changed;
-    row
+    let row = calendar::rows::row_of(lunation);
+    MonthRow {
+        remainder: DayRemainder {
+            parts: row.remainder.parts.wrapping_add(1),
+        },
+        ..row
+    }
 }
 
 pub fn ask_forged_steps(rt: &impl Print, lunation: u64) -> io::Result<()>

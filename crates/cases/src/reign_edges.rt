@@ -29,10 +29,11 @@ fn ask_marked(
         .number(from)
         .number(to);
     let buffer = volume_edges::altered(first, last, at, byte);
-    match reigns::marked(&buffer[..length], from, to) {
-        Ok((news, fulls)) => line.number(news).number(fulls).write(rt),
-        Err(e) => line.refuse(rt, e),
-    }
+    line.answer(
+        rt,
+        reigns::marked(&buffer[..length], from, to),
+        |line, (news, fulls)| line.number(news).number(fulls),
+    )
 }
 
 // Spans that start the volume and spans that do not, of one year and of more; about an era's head and both ends of the round, and in a volume that

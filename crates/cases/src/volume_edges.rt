@@ -45,13 +45,10 @@ fn ask_write(rt: &impl Print, first: u64, last: u64, room: usize) -> io::Result<
         .number(last)
         .number(room as u64);
     let writing = write_in(first, last, room);
-    let buffer = writing.buffer;
-    let digest = Digest::new().feed_bytes(&buffer);
-    let answer = writing.answer;
-    match answer {
-        Ok(n) => line.number(n).number(digest.value()).write(rt),
-        Err(e) => line.refuse(rt, e),
-    }
+    let digest = Digest::new().feed_bytes(&writing.buffer);
+    line.answer(rt, writing.answer, |line, n| {
+        line.number(n).number(digest.value())
+    })
 }
 
 // A volume with one byte altered, at the front of zeros; where the writer refuses there are zeros alone.
@@ -85,10 +82,11 @@ fn ask_read(
         .number(byte as u64)
         .number(length as u64);
     let buffer = altered(first, last, at, byte);
-    match volumes::reader::read(&buffer[..length]) {
-        Ok((first, last)) => line.number(first).number(last).write(rt),
-        Err(e) => line.refuse(rt, e),
-    }
+    line.answer(
+        rt,
+        volumes::reader::read(&buffer[..length]),
+        |line, (first, last)| line.number(first).number(last),
+    )
 }
 
 // Both ends of the round, an era's head, years of twelve and thirteen months, as many as there is room for.

@@ -19,19 +19,15 @@ fn ask_month(rt: &impl Print, year: u64, place: u64) -> io::Result<()> {
 
 fn ask_months(rt: &impl Print, year: u64) -> io::Result<()> {
     let months = calendar::heads::year_head(year).unwrap_or_default().months;
-    let mut place = 0;
-    while place < months {
+    for place in 0..months {
         ask_month(rt, year, place)?;
-        place += 1;
     }
     Ok(())
 }
 
 fn ask_terms(rt: &impl Print, year: u64) -> io::Result<()> {
-    let mut index = 0;
-    while index < 24 {
+    for index in 0..24 {
         questions::ask_cut(rt, year, 24, index)?;
-        index += 1;
     }
     Ok(())
 }
@@ -44,29 +40,23 @@ fn ask_year(rt: &impl Print, year: u64) -> io::Result<()> {
 
 // 41 years at even distances over the round.
 pub fn ask_spread(rt: &impl Print) -> io::Result<()> {
-    let mut i = 0;
-    while i < 41 {
+    for i in 0..41 {
         ask_year(rt, 1 + 25289 * i)?;
-        i += 1;
     }
     Ok(())
 }
 
 pub fn ask_seams(rt: &impl Print) -> io::Result<()> {
-    let mut i = 0;
-    while i < 25 {
-        ask_year(rt, SEAMS[i])?;
-        i += 1;
+    for year in SEAMS {
+        ask_year(rt, year)?;
     }
     Ok(())
 }
 
 // The heads of a whole chapter, so that each entry of the printed chapter is written, and of the year that begins the next.
 pub fn ask_chapter(rt: &impl Print) -> io::Result<()> {
-    let mut past = 0;
-    while past <= units::Xinghe::CHAPTER {
-        questions::ask_head(rt, past + 1)?;
-        past += 1;
+    for year in 1..=units::Xinghe::CHAPTER + 1 {
+        questions::ask_head(rt, year)?;
     }
     Ok(())
 }

@@ -14,8 +14,8 @@ impl Digest {
 
     // No sum wraps for the numbers of the calendar, which are below 2^40; the wrapping sum spares stating so for each of them.
     pub fn feed(self, value: u64) -> Self {
-        let first = std::num::wrapping_add_u64((self.h1 as u64) * 65599, value);
-        let second = std::num::wrapping_add_u64((self.h2 as u64) * 31337, value);
+        let first = (u64::from(self.h1) * 65599).wrapping_add(value);
+        let second = (u64::from(self.h2) * 31337).wrapping_add(value);
         Self {
             h1: (first % 4294967291) as u32,
             h2: (second % 4294967279) as u32,
@@ -24,22 +24,18 @@ impl Digest {
 
     // Each of the bytes.
     pub fn feed_bytes(self, bytes: &[u8]) -> Self {
-        let mut fed = self;
-        let mut i = 0;
-        while i < bytes.len() {
-            fed = fed.feed(bytes[i] as u64);
-            i += 1;
-        }
-        fed
+        bytes
+            .iter()
+            .fold(self, |fed, &byte| fed.feed(u64::from(byte)))
     }
 
     // Both sums of another digest, the first one first.
     pub fn feed_digest(self, other: Digest) -> Self {
-        self.feed(other.h1 as u64).feed(other.h2 as u64)
+        self.feed(u64::from(other.h1)).feed(u64::from(other.h2))
     }
 
     // Both sums in one number.
     pub fn value(self) -> u64 {
-        (self.h1 as u64) * 4294967296 + (self.h2 as u64)
+        u64::from(self.h1) * 4294967296 + u64::from(self.h2)
     }
 }

@@ -1,82 +1,73 @@
-// Lines of output for the programs cases and survey, and digests of what they are about. A line is built by value and written by one system call, since a call for each number would take most of the run.
+// Lines of output for the programs cases and survey, digests of what they are about, and the answers that go onto either. A line is built by value and written by one system call, since a call for each number would take most of the run.
 #![tactic(auto)]
 
+use arrayvec::ArrayVec;
 use refusal::{Numbered, Refusal};
-use walking::Sign;
+use std::io::{self, Write};
 
+pub mod answers;
+pub mod calendars;
 pub mod digest;
+pub mod sink;
 
 // Room for the longest line, which has 276 bytes, and its end. What does not fit is left out, so that building a line asks nothing of its caller.
 const ROOM: usize = 288;
 
-#[derive(Clone, Copy)]
+#[derive(Drop)]
 pub struct Line {
-    pub bytes: [u8; ROOM],
-    pub len: usize,
-}
-
-fn send(rt: &impl Print, bytes: &[u8], len: usize) -> std::io::Result<()> {
-    if len <= bytes.len() {
-        rt.write_all(&bytes[..len])?;
-    }
-    Ok(())
+    bytes: ArrayVec<u8, ROOM>,
 }
 
 impl Line {
     pub fn new() -> Self {
         Self {
-            bytes: [0; ROOM],
-            len: 0,
+            bytes: ArrayVec::new(),
         }
     }
 
-    pub fn byte(mut self, byte: u8) -> Self {
-        let at = self.len;
-        if at < ROOM {
-            self.bytes[at] = byte;
-            self.len = at + 1;
-        }
+    pub fn byte(self, byte: u8) -> Self {
+        self.text(&[byte])
+    }
+
+    pub fn text(mut self, text: &[u8]) -> Self {
+        let _ = self.bytes.try_extend_from_slice(text);
         self
     }
 
-    pub fn text(self, text: &[u8]) -> Self {
-        let mut line = self;
-        let mut i = 0;
-        while i < text.len() {
-            line = line.byte(text[i]);
-            i += 1;
-        }
-        line
-    }
-
-    fn digits(self, number: u64) -> Self {
-        let mut digits = [0u8; 20];
-        let count = io::decimal(number, &mut digits);
-        self.text(&digits[..count])
-    }
-
     // A number after a space, as every number of a line stands.
-    pub fn number(self, number: u64) -> Self {
-        self.byte(b' ').digits(number)
+    pub fn number(mut self, number: u64) -> Self {
+        let _ = write!(self.bytes, " {number}");
+        self
     }
 
-    pub fn signed(self, number: i64) -> Self {
-        match walking::sign_of(number) {
-            Sign::Up(n) => self.number(n),
-            // `Down(n)` is -(n + 1), which has a size even at the least i64
-            Sign::Down(n) => self.text(b" -").digits(std::num::wrapping_add_u64(n, 1)),
-        }
+    pub fn signed(mut self, number: i64) -> Self {
+        let _ = write!(self.bytes, " {number}");
+        self
     }
 
     // Ends and writes the line.
-    pub fn write(self, rt: &impl Print) -> std::io::Result<()> {
+    pub fn write(self, rt: &impl Print) -> io::Result<()> {
         let ended = self.byte(b'\n');
-        let bytes = ended.bytes;
-        send(rt, &bytes, ended.len)
+        rt.write_all(ended.bytes.as_slice())
     }
 
     // Writes the question with the number of its refusal.
-    pub fn refuse(self, rt: &impl Print, refusal: Refusal) -> std::io::Result<()> {
+    pub fn refuse(self, rt: &impl Print, refusal: Refusal) -> io::Result<()> {
         self.text(b" refused").number(refusal.number()).write(rt)
+    }
+
+    // Writes the question with its answer as `with` puts it on the line, or with the number of its refusal.
+    pub fn answer<T, F: FnOnce(Line, T) -> Line>(
+        self,
+        rt: &impl Print,
+        answer: Result<T, Refusal>,
+        with: F,
+    ) -> io::Result<()>
+        requires { F.IsAlwaysCallable with }
+    {
+        match answer {
+            Ok(value) => with(self, value).write(rt),
+            Err(refusal) => self.refuse(rt, refusal),
+        }
     }
 }

@@ -37,10 +37,8 @@ fn read_volume<R: Read>(input: &mut R, buffer: &mut [u8]) -> usize
 fn mend_and_print(rt: &impl Print, volume: &mut [u8]) -> io::Result<()> {
     let mut lines = [0u8; LINES];
     let report = mending_text::render(volume, &mut lines);
-    let n = report.text;
-    let rest = report.volume;
-    rt.write_all(&lines[..n])?;
-    rt.write_all(&volume[..rest])
+    rt.write_all(&lines[..report.text])?;
+    rt.write_all(&volume[..report.volume])
 }
 
 fn main(rt: HostRuntime) -> io::Result<()> {

@@ -28,10 +28,8 @@ fn put_numbers(out: &mut [u8], numbers: &[u64]) -> usize
     ensures { Wrote out.old out.new 0 result (texts number_line numbers.now) }
 {
     let mut end = 0;
-    let mut i = 0;
-    while i < numbers.len() {
-        end = put_field(out, end, numbers[i], 10);
-        i += 1;
+    for &number in numbers {
+        end = put_field(out, end, number, 10);
     }
     end
 }
@@ -43,20 +41,15 @@ pub fn render(volume: &mut [u8], lines: &mut [u8; LINES]) -> Report
     let mut list = [0u64; MOST_BLOCKS];
     match mending::mend(volume, &mut list) {
         Ok(n) => {
-            let count = n as usize;
-            let end = put_numbers(lines, &list[..count]);
-            let all = put_field(lines, end, n, 10);
+            let end = put_numbers(lines, &list[..n as usize]);
             Report {
-                text: all,
+                text: put_field(lines, end, n, 10),
                 volume: volume.len(),
             }
         }
-        Err(e) => {
-            let all = put_refusal(lines, 0, e);
-            Report {
-                text: all,
-                volume: 0,
-            }
-        }
+        Err(e) => Report {
+            text: put_refusal(lines, 0, e),
+            volume: 0,
+        },
     }
 }

@@ -10,6 +10,7 @@ pub fn read_full<R: Read>(input: &mut R, buffer: &mut [u8]) -> usize
     ensures { result ≤ length buffer.new }
 {
     let mut done = 0;
+    // By index: a read may put fewer bytes than there is room for, and no call of the library that reads on says how many came where the input ends.
     while done < buffer.len() {
         let Ok(got) = input.read(&mut buffer[done..]) else {
             break;
@@ -25,8 +26,5 @@ pub fn read_full<R: Read>(input: &mut R, buffer: &mut [u8]) -> usize
 // One more read: whether it found the end. If it failed or found a byte, the input has not ended.
 pub fn has_ended<R: Read>(input: &mut R) -> bool {
     let mut byte = [0u8; 1];
-    match input.read(&mut byte) {
-        Ok(got) => got == 0,
-        Err(_) => false,
-    }
+    matches!(input.read(&mut byte), Ok(0))
 }

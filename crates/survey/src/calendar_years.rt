@@ -1,11 +1,8 @@
 // Every question of the Zhengguang or the Linde calendar, asked of every day, month and year that it has.
-use crate::calendars;
-use crate::calendars::{Calendar, feed_cut};
+use crate::calendars::{Surveyed, feed_cut, feed_days};
 use crate::counts::MonthCounts;
-use linde::Linde;
 use lines::Line;
 use lines::digest::Digest;
-use mean_calendar::{MeanHead, MeanMonth};
 use std::io;
 
 // What is known of the years asked so far.
@@ -17,93 +14,54 @@ pub struct CalendarSurvey {
 
 impl CalendarSurvey {
     fn new() -> Self {
-        let counts = MonthCounts::new();
-        let digest = Digest::new();
-        Self { counts, digest }
-    }
-
-    // A month whose row is in the digest already: its days are asked, and it is counted.
-    fn with_month(self, calendar: Calendar, month: MeanMonth, fed: Digest) -> Self {
-        let digest = calendars::feed_days(fed, calendar, month);
-        let counted = self.counts;
-        let counts = counted.count_month(month.length);
-        Self { counts, digest }
-    }
-
-    fn month(self, calendar: Calendar, year: u64, place: u64) -> Self {
-        let before = self.digest;
-        match calendar {
-            Calendar::Zhengguang => {
-                let row = zhengguang::rows::month_row(year, place).unwrap_or_default();
-                let nodes = zhengguang::nodes::nodes(year, place).unwrap_or_default();
-                let mean = row.mean;
-                let fed = calendars::fed_zhengguang_month(before, row, nodes);
-                self.with_month(calendar, mean, fed)
-            }
-            Calendar::Linde => {
-                let month = Linde::month_row(year, place).unwrap_or_default();
-                let fed = calendars::fed_linde_month(before, month);
-                self.with_month(calendar, month, fed)
-            }
+        Self {
+            counts: MonthCounts::default(),
+            digest: Digest::new(),
         }
     }
 
-    fn months(self, calendar: Calendar, year: u64, months: u64) -> Self {
-        let mut survey = self;
-        let mut place = 0;
-        while place < months {
-            survey = survey.month(calendar, year, place);
-            place += 1;
+    fn month<C: Surveyed>(self, year: u64, place: u64) -> Self {
+        let row = C::month_row(year, place).unwrap_or_default();
+        let month = C::mean_month(row);
+        let with_row = C::with_row(self.digest, row);
+        let with_nodes = C::feed_nodes(with_row, year, place);
+        Self {
+            counts: self.counts.count_month(month.length),
+            digest: feed_days::<C>(with_nodes, month),
+        }
+    }
+
+    fn year<C: Surveyed>(self, year: u64) -> Self {
+        let head = C::year_head(year).unwrap_or_default();
+        let mean = C::mean_head(head);
+        let with_head = C::with_head(self.digest, head);
+        let terms = feed_cut::<C>(with_head, year, 24);
+        let names = feed_cut::<C>(terms, year, 60);
+        let mut survey = Self {
+            counts: self.counts.count_year(mean.leap),
+            digest: feed_cut::<C>(names, year, 72),
+        };
+        for place in 0..mean.months {
+            survey = survey.month::<C>(year, place);
         }
         survey
     }
 
-    // A year whose head is in the digest already.
-    fn with_year(self, calendar: Calendar, year: u64, head: MeanHead, fed: Digest) -> Self {
-        let terms = feed_cut(fed, calendar, year, 24);
-        let digest = feed_cut(feed_cut(terms, calendar, year, 60), calendar, year, 72);
-        let counted = self.counts;
-        let counts = counted.count_year(head.leap);
-        Self { counts, digest }.months(calendar, year, head.months)
-    }
-
-    fn year(self, calendar: Calendar, year: u64) -> Self {
-        let before = self.digest;
-        match calendar {
-            Calendar::Zhengguang => {
-                let head = zhengguang::heads::year_head(year).unwrap_or_default();
-                let mean = head.mean;
-                let fed = calendars::fed_zhengguang_head(before, head);
-                self.with_year(calendar, year, mean, fed)
-            }
-            Calendar::Linde => {
-                let head = Linde::year_head(year).unwrap_or_default();
-                let fed = calendars::fed_linde_head(before, head);
-                self.with_year(calendar, year, head, fed)
-            }
-        }
-    }
-
     pub fn write(self, rt: &impl Print, title: Line) -> io::Result<()> {
-        let counts = self.counts;
-        let digest = self.digest;
-        counts
+        self.counts
             .on_line(title)
             .text(b" digest")
-            .number(digest.value())
+            .number(self.digest.value())
             .write(rt)
     }
 }
 
 // Every year of a calendar, in order.
-pub fn survey_years(calendar: Calendar) -> CalendarSurvey {
-    let k = calendar.constants();
-    let years = k.years;
+pub fn survey_years<C: Surveyed>() -> CalendarSurvey {
+    let k = C::constants();
     let mut survey = CalendarSurvey::new();
-    let mut past = 0;
-    while past < years {
-        survey = survey.year(calendar, std::num::wrapping_add_u64(k.first, past));
-        past += 1;
+    for past in 0..k.years {
+        survey = survey.year::<C>(k.first.wrapping_add(past));
     }
     survey
 }

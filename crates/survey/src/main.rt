@@ -5,16 +5,17 @@
 mod calendar_years;
 mod calendars;
 mod counts;
-mod fields;
 mod mended;
 mod reign;
 mod volume;
 mod years;
 
-use calendars::Calendar;
+use calendar_years::survey_years;
+use linde::Linde;
 use lines::Line;
 use std::io;
 use years::Survey;
+use zhengguang::Zhengguang;
 
 // The eras of the round (元).
 const ERAS: u64 = 6;
@@ -22,18 +23,16 @@ const ERAS: u64 = 6;
 fn survey_round(rt: &impl Print) -> io::Result<Survey> {
     let ganzhi = names::ganzhi::names();
     let mut round = Survey::new();
-    let mut i = 0;
-    while i < ERAS {
+    for i in 0..ERAS {
         let era = years::survey_era(i * years::ERA_YEARS, &ganzhi);
         era.write(rt, Line::new().text(b"era").number(i + 1))?;
         round = round.add_era(era);
-        i += 1;
     }
     Ok(round)
 }
 
 fn main(rt: HostRuntime) -> io::Result<()> {
     survey_round(&rt)?.write(&rt, Line::new().text(b"round"))?;
-    calendar_years::survey_years(Calendar::Zhengguang).write(&rt, Line::new().text(b"zhengguang"))?;
-    calendar_years::survey_years(Calendar::Linde).write(&rt, Line::new().text(b"linde"))
+    survey_years::<Zhengguang>().write(&rt, Line::new().text(b"zhengguang"))?;
+    survey_years::<Linde>().write(&rt, Line::new().text(b"linde"))
 }

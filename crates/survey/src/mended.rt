@@ -4,50 +4,31 @@ ghost use Rattle.std.specs.Prelude.{◌≡◌, ◌<◌, ◌≤◌, length};
 use crate::volume;
 use crate::volume::{PAIR, put_block};
 use blocks::BLOCK;
+use lines::answers;
 use lines::digest::Digest;
 use mending::MOST_BLOCKS;
 
 // One more, or 0 where it is the greatest.
-fn next(byte: u8) -> u8 {
-    if byte == u8::MAX { 0 } else { byte + 1 }
-}
-
 fn alter(bytes: &mut [u8], at: usize)
     requires { at < length bytes.old }
     ensures { length bytes.new ≡ length bytes.old }
 {
-    bytes[at] = next(bytes[at]);
+    bytes[at] = bytes[at].wrapping_add(1);
 }
 
 // So many, or as many as a list has.
 fn at_most(count: u64) -> usize
     ensures { result ≤ 1024 }
 {
-    if count < MOST_BLOCKS as u64 {
-        count as usize
-    } else {
-        MOST_BLOCKS
-    }
-}
-
-// The first n numbers of a list.
-fn feed_first(digest: Digest, list: &[u64; MOST_BLOCKS], n: usize) -> Digest
-    requires { n ≤ 1024 }
-{
-    let mut fed = digest;
-    let mut i = 0;
-    while i < n {
-        fed = fed.feed(list[i]);
-        i += 1;
-    }
-    fed
+    MOST_BLOCKS.min(count as usize)
 }
 
 // How many blocks were written afresh, which, and the mended volume.
 fn feed_volume(digest: Digest, bytes: &mut [u8]) -> Digest {
     let mut list = [0u64; MOST_BLOCKS];
     let count = mending::mend(bytes, &mut list).unwrap_or(0);
-    volume::feed_words(feed_first(digest.feed(count), &list, at_most(count)), bytes)
+    let with_list = answers::numbers(digest.feed(count), &list[..at_most(count)]);
+    volume::feed_words(with_list, bytes)
 }
 
 // The first year has no block before it, and its own is left whole.

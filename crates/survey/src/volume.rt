@@ -9,12 +9,9 @@ pub const PAIR: usize = 2 * BLOCK;
 
 // The numbers of four bytes of which blocks are made, in order.
 pub fn feed_words(digest: Digest, bytes: &[u8]) -> Digest {
-    let n = bytes.len() / 4;
     let mut fed = digest;
-    let mut i = 0;
-    while i < n {
-        fed = fed.feed(blocks::bytes::u32_at(bytes, 4 * i));
-        i += 1;
+    for word in bytes.chunks_exact(4) {
+        fed = fed.feed(blocks::bytes::u32_at(word, 0));
     }
     fed
 }

@@ -1,6 +1,6 @@
 -- A line with a byte more, and which span a whole line asks for.
 -- Assumes nothing.
-use Rattle.std.specs.Prelude.{Err}
+use Rattle.std.specs.Prelude.{Err, None, Some}
 use mathlib.Core.Path.{◌≡◌, refl, sym, ap, ◌∙◌}
 use mathlib.Core.Bool.{Bool, true, false, ◌&&◌, ◌||◌}
 use mathlib.Core.Logic.{⊎_elim}
@@ -15,10 +15,10 @@ use Rattle.units.specs.Xinghe.{round_years, is_year}
 use Rattle.volumes.specs.Writer.{span_answer}
 use Rattle.volumes.proofs.Runs.{year_high}
 use Rattle.year_text.specs.Decimal.{all_digits, value_from}
-use Rattle.year_text.specs.Lines.{past_round, read_of, fed, is_settled, year_of_line}
+use Rattle.year_text.specs.Lines.{past_round, read_of, year_read, is_settled, year_of_line}
 use Rattle.year_text.proofs.Readings.{fed_read, line_year}
 use Rattle.year_text.proofs.Fits.{settled_none}
-use Rattle.volume_text.specs.Lines.{before_blank, after_blank, has_blank, span_of_line, span_read, span_fed, span_settled}
+use Rattle.volume_text.specs.Lines.{before_blank, after_blank, has_blank, span_of_line, span_read, year_or_0, last_year, span_fed_at, span_fed, settled_or_none, span_settled}
 use Rattle.volume_text.specs.declared.reader.SpanReader.{SpanReader}
 
 -- a line that goes on
@@ -64,15 +64,15 @@ none_after (x ∷ bs) e = go (eqb x 32) e (none_after bs)
 -- THE READER'S STEP: a state that stands for the bytes so far, fed with a byte more, stands for those and the byte
 pub span_fed_lem : (bs : List ℕ) (b : ℕ) → span_fed (span_read bs) b ≡ span_read (bs ++ b ∷ [])
 unfolding span_read span_fed has_blank before_blank after_blank
-span_fed_lem bs b = rw (blank_on (b ∷ []) bs, before_on (b ∷ []) bs, after_on (b ∷ []) bs) (go (has_blank bs) refl (eqb b 32))
+span_fed_lem bs b = rw (blank_on (b ∷ []) bs, before_on (b ∷ []) bs, after_on (b ∷ []) bs) (go (has_blank bs) refl (eqb b 32) refl)
   where
     read : (t u : Bool) → SpanReader
-    read t u = record { blank = pick t true (pick u true false); first = read_of (before_blank bs ++ pick t [] (pick u [] (b ∷ []))); last = read_of (pick t (after_blank bs ++ b ∷ []) (pick u [] [])) }
+    read t u = record { first = read_of (before_blank bs ++ pick t [] (pick u [] (b ∷ []))); last = pick (pick t true (pick u true false)) (Some (read_of (pick t (after_blank bs ++ b ∷ []) (pick u [] [])))) None }
 
-    go : (t : Bool) → has_blank bs ≡ t → (u : Bool) → pick t (record { blank = true; first = read_of (before_blank bs); last = fed (read_of (after_blank bs)) b }) (pick u (record { blank = true; first = read_of (before_blank bs); last = read_of (after_blank bs) }) (record { blank = false; first = fed (read_of (before_blank bs)) b; last = read_of (after_blank bs) })) ≡ read t u
-    go true e u = rw (fed_read (after_blank bs) b, append-nil (before_blank bs))
-    go false e true = rw (none_after bs e, append-nil (before_blank bs))
-    go false e false = rw (none_after bs e, fed_read (before_blank bs) b)
+    go : (t : Bool) → has_blank bs ≡ t → (u : Bool) → eqb b 32 ≡ u → span_fed_at (pick t (Some (read_of (after_blank bs))) None) (read_of (before_blank bs)) b ≡ read t u
+    go true e u w = rw (fed_read (after_blank bs) b, append-nil (before_blank bs))
+    go false e true w = rw (w, append-nil (before_blank bs))
+    go false e false w = rw (w, fed_read (before_blank bs) b)
 
 -- no span where one of the two is no year
 no_span : (a b : ℕ) → ¬ (T (is_year a && is_year b)) → span_answer a b ≡ Err Refusal.Year
@@ -96,17 +96,22 @@ capped a b =
     (λ (h : round_years < a). past_first (min a past_round) (min b past_round) (omega arith) ∙ sym (past_first a b h))
     (le_or_lt a round_years)
 
+-- the year after the blank, and 0 where there is none
+last : (bs : List ℕ) → last_year (span_read bs) ≡ min (year_of_line (after_blank bs)) past_round
+unfolding span_read all_digits value_from
+last bs = go (has_blank bs) refl
+  where
+    go : (t : Bool) → has_blank bs ≡ t → year_or_0 (pick t (Some (read_of (after_blank bs))) None) ≡ min (year_of_line (after_blank bs)) past_round
+    go true e = line_year (after_blank bs)
+    go false e = rw (none_after bs e)
+
 -- A LINE'S SPAN: the reader ends with the years whose span the line asks for
-pub span_line : (bs : List ℕ) → span_answer (span_read bs).first.year (span_read bs).last.year ≡ span_of_line bs
+pub span_line : (bs : List ℕ) → span_answer (year_read (span_read bs).first) (last_year (span_read bs)) ≡ span_of_line bs
 unfolding span_read
-span_line bs = rw (line_year (before_blank bs), line_year (after_blank bs)) (capped (year_of_line (before_blank bs)) (year_of_line (after_blank bs)))
+span_line bs = rw (line_year (before_blank bs), last bs) (capped (year_of_line (before_blank bs)) (year_of_line (after_blank bs)))
 
 none : (t : Bool) → t ≡ false → ¬ (T t)
 none b e t = rw e at t
-
-unsettled : ¬ (is_settled (read_of []) ≡ true)
-unfolding read_of all_digits value_from
-unsettled e = let bad : ◌≡◌ {A = ℕ} 0 1 = cc in omega arith
 
 -- SETTLED: once one of the two can't become a year of the round, the line asks for no span, whatever follows
 pub span_settled_lem : (bs cs : List ℕ) → span_settled (span_read bs) ≡ true → span_of_line (bs ++ cs) ≡ Err Refusal.Year
@@ -119,10 +124,10 @@ span_settled_lem bs cs e = go (is_settled (read_of (before_blank bs))) refl (has
     b : ℕ
     b = year_of_line (after_blank (bs ++ cs))
 
-    go : (t : Bool) → is_settled (read_of (before_blank bs)) ≡ t → (u : Bool) → has_blank bs ≡ u → (t || is_settled (read_of (after_blank bs))) ≡ true → span_answer a b ≡ Err Refusal.Year
+    go : (t : Bool) → is_settled (read_of (before_blank bs)) ≡ t → (u : Bool) → has_blank bs ≡ u → (t || settled_or_none (pick u (Some (read_of (after_blank bs))) None)) ≡ true → span_answer a b ≡ Err Refusal.Year
     go true q u w e =
         no_span a b (λ t. none (is_year a) (rw (before_on cs bs) (settled_none (before_blank bs) (pick (has_blank bs) [] (before_blank cs)) q)) (both_left (is_year a) (is_year b) t))
     go false q true w e =
         let after : after_blank (bs ++ cs) ≡ after_blank bs ++ cs = after_on cs bs ∙ ap (λ (t : Bool). pick t (after_blank bs ++ cs) (after_blank cs)) w in
         no_span a b (λ t. none (is_year b) (rw after (settled_none (after_blank bs) cs e)) (both_right (is_year a) (is_year b) t))
-    go false q false w e = absurd (unsettled (rw (none_after bs w) at e))
+    go false q false w e = let bad : ◌≡◌ {A = ℕ} 0 1 = cc in absurd (omega arith)

@@ -1,11 +1,12 @@
 -- The lines of the volume programs: the one that asks for a volume, and the one that tells a volume's years.
 -- Assumes nothing.
-use Rattle.std.specs.Prelude.{Result, Ok, Err, Bool, true, false, ◌||◌, List, [], ◌∷◌, ◌++◌, ℕ, eqb}
+use Rattle.std.specs.Prelude.{Result, Ok, Err, Option, None, Some, Bool, true, false, ◌||◌, List, [], ◌∷◌, ◌++◌, ℕ, eqb}
 use Rattle.refusal.specs.declared.Refusal.{Refusal}
 use Rattle.reckoning.specs.Search.{pick}
-use Rattle.year_text.specs.Lines.{year_of_line, read_of, fed, is_settled}
+use Rattle.year_text.specs.Lines.{year_of_line, read_of, year_read, fed, is_settled}
 use Rattle.year_text.specs.Text.{field, refusal_line}
 use Rattle.volumes.specs.Writer.{span_answer}
+use Rattle.year_text.specs.declared.reader.Reader.{Reader}
 use Rattle.volume_text.specs.declared.reader.SpanReader.{SpanReader}
 
 -- the bytes of a line before its first blank, and those after it
@@ -31,16 +32,30 @@ unfoldable pub has_blank : List ℕ → Bool
 has_blank [] = false
 has_blank (b ∷ bs) = pick (eqb b 32) true (has_blank bs)
 
+-- what stands before the blank, and what stands after it, once it has come
 unfoldable pub span_read : List ℕ → SpanReader
-span_read bs = record { blank = has_blank bs; first = read_of (before_blank bs); last = read_of (after_blank bs) }
+span_read bs = record { first = read_of (before_blank bs); last = pick (has_blank bs) (Some (read_of (after_blank bs))) None }
+
+-- the year after the blank: 0, which is no year, where none has come
+abbrev pub year_or_0 : Option Reader → ℕ
+year_or_0 (Some s) = year_read s
+year_or_0 None = 0
+
+abbrev pub last_year : SpanReader → ℕ
+last_year s = year_or_0 s.last
 
 -- a state after one byte more
+abbrev pub span_fed_at : Option Reader → Reader → ℕ → SpanReader
+span_fed_at (Some last) first b = record { first = first; last = Some (fed last b) }
+span_fed_at None first b = pick (eqb b 32) (record { first = first; last = Some (read_of []) }) (record { first = fed first b; last = None })
+
 unfoldable pub span_fed : SpanReader → ℕ → SpanReader
-span_fed s b =
-    pick s.blank (record { blank = true; first = s.first; last = fed s.last b })
-    (pick (eqb b 32) (record { blank = true; first = s.first; last = s.last })
-    (record { blank = false; first = fed s.first b; last = s.last }))
+span_fed s b = span_fed_at s.last s.first b
 
 -- one of the two can't become a year of the round, whatever follows
+abbrev pub settled_or_none : Option Reader → Bool
+settled_or_none (Some s) = is_settled s
+settled_or_none None = false
+
 abbrev pub span_settled : SpanReader → Bool
-span_settled s = is_settled s.first || is_settled s.last
+span_settled s = is_settled s.first || settled_or_none s.last

@@ -1,30 +1,27 @@
 // Reading a line with a first and a last year, fed one byte at a time, in fixed memory.
 ghost use Rattle.std.specs.Prelude.{◌≡◌, []};
 ghost use Rattle.volumes.specs.Writer.{span_answer};
-ghost use Rattle.volume_text.specs.Lines.{span_read, span_fed, span_settled};
+ghost use Rattle.year_text.specs.Lines.{year_read};
+ghost use Rattle.volume_text.specs.Lines.{span_read, last_year, span_fed, span_settled};
 
 use refusal::Refusal;
 use year_text::reader::Reader;
 
 #[derive(Clone, Copy)]
 pub struct SpanReader {
-    // a blank has come
-    pub blank: bool,
-    // what stands before it, and after it
+    // what stands before the first blank
     pub first: Reader,
-    pub last: Reader,
+    // what stands after it, once it has come
+    pub last: Option<Reader>,
 }
 
 impl SpanReader {
     pub fn new() -> SpanReader
         ensures { result ≡ span_read [] }
     {
-        let first = Reader::new();
-        let last = Reader::new();
         SpanReader {
-            blank: false,
-            first,
-            last,
+            first: Reader::new(),
+            last: None,
         }
     }
 
@@ -32,28 +29,21 @@ impl SpanReader {
     pub fn feed(self, byte: u8) -> SpanReader
         ensures { result ≡ span_fed self byte }
     {
-        let first = self.first;
-        let last = self.last;
-        if self.blank {
-            let last = last.feed(byte);
+        if let Some(last) = self.last {
             return SpanReader {
-                blank: true,
-                first,
-                last,
+                last: Some(last.feed(byte)),
+                ..self
             };
         }
         if byte == b' ' {
             return SpanReader {
-                blank: true,
-                first,
-                last,
+                last: Some(Reader::new()),
+                ..self
             };
         }
-        let first = first.feed(byte);
         SpanReader {
-            blank: false,
-            first,
-            last,
+            first: self.first.feed(byte),
+            ..self
         }
     }
 
@@ -61,17 +51,14 @@ impl SpanReader {
     pub fn settled(self) -> bool
         ensures { result ≡ span_settled self }
     {
-        let first = self.first;
-        let last = self.last;
-        first.settled() | last.settled()
+        self.first.settled() || self.last.is_some_and(|last| last.settled())
     }
 
-    // How many years the line asks for.
+    // How many years the line asks for; without a blank none, since no year is 0.
     pub fn span(self) -> Result<u64, Refusal>
-        ensures { result ≡ span_answer self.first.year self.last.year }
+        ensures { result ≡ span_answer (year_read self.first) (last_year self) }
     {
-        let first = self.first;
-        let last = self.last;
-        volumes::writer::span(first.year, last.year)
+        let last = self.last.map_or(0, |last| last.year());
+        volumes::writer::span(self.first.year(), last)
     }
 }

@@ -9,46 +9,36 @@ use std::io::Read;
 use volume_text::reader::SpanReader;
 
 // One byte at a time, so that what follows the line is left for whoever reads next. The line ends at a newline, at the end of the input, and where it
-// is settled. A read that fails leaves a line that isn't known: it asks for no year. A proved loop has to end: the turns are more than any run uses
-// up.
-fn read_span<R: Read>(input: &mut R) -> SpanReader {
+// is settled. A read that a signal cuts short is tried again; any other failure leaves a line that isn't known: it asks for no year.
+fn read_span<R: Read + Drop>(input: R) -> SpanReader {
     let mut reader = SpanReader::new();
-    for _ in 0..u64::MAX {
-        let mut byte = [0u8; 1];
-        let Ok(got) = input.read(&mut byte) else {
-            return SpanReader::new();
-        };
-        if (got == 0) | (byte[0] == b'\n') {
-            return reader;
+    for byte in input.bytes() {
+        match byte {
+            Ok(b'\n') => return reader,
+            Ok(byte) => reader = reader.feed(byte),
+            Err(_) => return SpanReader::new(),
         }
-        reader = reader.feed(byte[0]);
         if reader.settled() {
             return reader;
         }
     }
-    SpanReader::new()
+    reader
 }
 
 // It ends where a write does not go through: nobody reads on.
 fn write_blocks(rt: &impl Print, first: u64, n: u64) -> io::Result<()>
     requires { (1 ≤ first) × (first + n ≤ round_years + 1) }
 {
-    let mut i = 0;
-    while i < n {
-        let block = volumes::block(first, first + i);
-        rt.write_all(&block)?;
-        i += 1;
+    for year in first..first + n {
+        rt.write_all(&volumes::block(first, year))?;
     }
     Ok(())
 }
 
 fn main(rt: HostRuntime) -> io::Result<()> {
-    let reader = read_span(&mut rt.stdin());
+    let reader = read_span(rt.stdin());
     match reader.span() {
-        Ok(n) => {
-            let first = reader.first;
-            write_blocks(&rt, first.year, n)
-        }
+        Ok(n) => write_blocks(&rt, reader.first.year(), n),
         Err(e) => {
             let mut line = [0u8; 64];
             let n = volume_text::writer::render(Err(e), &mut line);

@@ -6,8 +6,10 @@ use Prim.Native.Nat.{ℕ, ◌+◌, ◌-◌, ◌*◌, ◌≤◌, ◌<◌}
 use native.Mathlib.Nat.{add-zero, zero-add}
 use native.Mathlib.Numerals.{add-one}
 use native.Mathlib.Omega.{arith}
-use lib.ListN.{length, take, drop, get_or, set, length-append, length-set, take-append-drop}
+use borrow.Rule.Slice.PartMut.{put_mid}
+use lib.ListN.{length, take, drop, get_or, set, length-append, length-set, length-take, length-drop, take-append-drop}
 use lib.Seq.{take-suc-set, take-suc, take_all, drop-set-lt, drop-drop}
+use Rattle.std.proofs.lemmas.Slice.{take-put_mid, drop-put_mid}
 use Rattle.writing.specs.Written.{Wrote, after_text, texts}
 
 -- what stands after a text is also what stood after the one before it
@@ -39,12 +41,16 @@ and_then {a} {b} {c} {at} {m} {e} {x} {y} p q =
 pub wrote_to : {a b : List ℕ} {at e f : ℕ} {x : List ℕ} → e ≡ f → Wrote a b at e x → Wrote a b at f x
 wrote_to {a} {b} {at} {e} {f} {x} q w = record { long = w.long; next = sym q ∙ w.next; front = rw (← q) w.front; rest = rw (← q) w.rest }
 
--- one byte more of a text
-pub text_more : (a b text : List ℕ) (at i : ℕ) → i < length text → at + length text ≤ length a → Wrote a b at (at + i) (take i text) → Wrote a (set b (at + i) (get_or text i 0)) at (at + (i + 1)) (take (i + 1) text)
-text_more a b text at i h room w =
-    let e : at + i + 1 ≡ at + (i + 1) = omega arith in
-    let t : take (i + 1) text ≡ take i text ++ (get_or text i 0 ∷ []) = rw (add-one i) (take-suc text i 0 h) in
-    rw t (wrote_to e (and_then w (wrote_byte b (at + i) (get_or text i 0) (omega (arith, w.long)))))
+-- a text over a part of the buffer that is as long
+pub wrote_part : (l text new : List ℕ) (at k : ℕ) → new ≡ text → k ≡ length text → at + length text ≤ length l → Wrote l (put_mid at k l new) at (at + length text) text
+wrote_part l text new at k e n room =
+    let same : length new ≡ length text = ap length e in
+    record {
+      long = simp (length-append, length-take, length-drop) (omega (arith, same));
+      next = refl;
+      front = take-put_mid at k l new (at + length text) (omega (arith, same)) (omega arith) ∙ ap (λ (x : List ℕ). take at l ++ x) e;
+      rest = drop-put_mid at k l new (at + length text) (omega arith) (omega arith) (omega (arith, same));
+    }
 
 -- a text at the front of the buffer
 pub from_front : {a b : List ℕ} {e : ℕ} {x : List ℕ} → Wrote a b 0 e x → (e ≡ length x) × (b ≡ after_text x a)

@@ -18,10 +18,7 @@ fn long_line(rt: &impl Print) -> io::Result<()> {
 // 400 zeros and a year.
 fn many_zeros(rt: &impl Print) -> io::Result<()> {
     let mut input = [b'0'; 404];
-    input[400] = b'2';
-    input[401] = b'0';
-    input[402] = b'0';
-    input[403] = b'7';
+    input[400..].copy_from_slice(b"2007");
     run(rt, &input)
 }
 

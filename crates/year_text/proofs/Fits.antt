@@ -12,6 +12,7 @@ use native.Mathlib.Omega.{arith}
 use borrow.Author.Tests.{ltb-true}
 use lib.Dec.{eqb}
 use lib.ListN.{length, length-append}
+use Rattle.std.specs.declared.ops.ControlFlow.TheVariants.{Break, Continue}
 use Rattle.reckoning.specs.Search.{pick}
 use Rattle.reckoning.proofs.Searches.{le_or_lt, below, beyond}
 use Rattle.refusal.specs.Numbers.{number_of}
@@ -23,10 +24,9 @@ use Rattle.calendar.proofs.Round.{head_months}
 use Rattle.year_list.specs.Filled.{rows_from}
 use Rattle.year_list.proofs.Fronts.{rows_length}
 use Rattle.year_text.specs.Decimal.{is_digit, all_digits, value_from, value}
-use Rattle.year_text.specs.Lines.{past_round, not_digits, read_of, fed, is_settled, line_of, year_of_line, stepped, year_or, asked}
+use Rattle.year_text.specs.Lines.{past_round, not_digits, digits_of, read_of, year_read, fed, is_settled, line_of, year_of_line, stepped, year_or, asked}
 use Rattle.year_text.specs.Text.{field, head_line, row_lines, refused_word, text_for, text_of}
 use Rattle.year_text.specs.declared.reader.Reader.{Reader}
-use Rattle.year_text.specs.declared.reader.Step.{Step}
 use Rattle.year_text.proofs.Readings.{fed_read, line_year}
 use Rattle.year_text.proofs.Lengths.{field_length, head_length, lines_length}
 
@@ -84,16 +84,16 @@ settled_none bs cs e = go (all_digits bs) refl e
     longer true h = past_year (value (bs ++ cs)) (omega (arith, value_past 0 bs cs))
     longer false h = below 1 0 (suc round_years) (omega arith)
 
-    go : (t : Bool) → all_digits bs ≡ t → is_settled (pick t (record { valid = true; year = min (value bs) past_round }) not_digits) ≡ true → is_year (year_of_line (bs ++ cs)) ≡ false
+    go : (t : Bool) → all_digits bs ≡ t → is_settled (pick t (digits_of (value bs)) not_digits) ≡ true → is_year (year_of_line (bs ++ cs)) ≡ false
     go true q h = longer (all_digits (bs ++ cs)) (omega (arith, ltb-true round_years (min (value bs) past_round) h))
     go false q h = rw (not_all bs cs q) (below 1 0 (suc round_years) (omega arith))
 
 -- a line that has ended
-ended : (bs : List ℕ) → text_of (read_of bs).year ≡ text_of (year_of_line (bs ++ []))
+ended : (bs : List ℕ) → text_of (year_read (read_of bs)) ≡ text_of (year_of_line (bs ++ []))
 ended bs = rw (append-nil bs, line_year bs) (capped_text (year_of_line bs))
 
 -- so its text is the same
-settled_text : (bs cs : List ℕ) → is_settled (read_of bs) ≡ true → text_of (year_of_line (bs ++ cs)) ≡ text_of (read_of bs).year
+settled_text : (bs cs : List ℕ) → is_settled (read_of bs) ≡ true → text_of (year_of_line (bs ++ cs)) ≡ text_of (year_read (read_of bs))
 settled_text bs cs e = no_year (year_of_line (bs ++ cs)) (settled_none bs cs e) ∙ sym (ended bs ∙ no_year (year_of_line (bs ++ [])) (settled_none bs [] e))
 
 -- AS IT IS READ: the year that is asked byte by byte has the text of the year that the first line asks for
@@ -109,7 +109,7 @@ read_line bs (c ∷ cs) = go (eqb c 10) (is_settled (fed (read_of bs) c)) refl (
     longer = append_assoc bs (c ∷ []) (line_of cs)
 
     go : (n t : Bool) → is_settled (fed (read_of bs) c) ≡ t → text_of (asked (read_of (bs ++ c ∷ [])) cs) ≡ text_of (year_of_line ((bs ++ c ∷ []) ++ line_of cs)) →
-        text_of (year_or (pick n (Step.Year (read_of bs).year) (pick t (Step.Year (fed (read_of bs) c).year) (Step.More (fed (read_of bs) c)))) after) ≡ text_of (year_of_line (bs ++ pick n [] (c ∷ line_of cs)))
+        text_of (year_or (pick n (Break (year_read (read_of bs))) (pick t (Break (year_read (fed (read_of bs) c))) (Continue (fed (read_of bs) c)))) after) ≡ text_of (year_of_line (bs ++ pick n [] (c ∷ line_of cs)))
     go true true e on = ended bs
     go true false e on = ended bs
     go false true e on = rw (fed_read bs c) (sym (settled_text (bs ++ c ∷ []) (line_of cs) (rw (fed_read bs c) at e)) ∙ ap (λ (l : List ℕ). text_of (year_of_line l)) longer)

@@ -8,12 +8,13 @@ use native.Mathlib.Numerals.{add-one}
 use native.Mathlib.Omega.{arith}
 use lib.ListN.{length, get_or, drop, drop_of_length-le}
 use lib.Seq.{drop-cons}
+use Rattle.std.specs.declared.ops.ControlFlow.{ControlFlow}
+use Rattle.std.specs.declared.ops.ControlFlow.TheVariants.{Break, Continue}
 use Rattle.reckoning.specs.Search.{pick}
 use Rattle.reckoning.proofs.Searches.{below, beyond, inside}
 use Rattle.year_text.specs.Decimal.{is_digit, all_digits, value_from, value}
-use Rattle.year_text.specs.Lines.{past_round, not_digits, read_of, fed, year_of_line, stepped, year_or, asked}
+use Rattle.year_text.specs.Lines.{past_round, not_digits, digits_of, read_of, year_read, fed_number, fed, year_of_line, stepped, year_or, asked}
 use Rattle.year_text.specs.declared.reader.Reader.{Reader}
-use Rattle.year_text.specs.declared.reader.Step.{Step}
 
 -- a byte more at the end
 pub all_more : (bs : List ℕ) (b : ℕ) → all_digits (bs ++ b ∷ []) ≡ (all_digits bs && is_digit b)
@@ -37,24 +38,23 @@ value_more (x ∷ bs) v b = value_more bs (10 * v + (x - 48)) b
 -- THE READER'S STEP: a state that stands for the bytes so far, fed with a byte more, stands for those and the byte
 pub fed_read : (bs : List ℕ) (b : ℕ) → fed (read_of bs) b ≡ read_of (bs ++ b ∷ [])
 unfolding read_of fed
-fed_read bs b = rw (all_more bs b) (go (all_digits bs) (is_digit b))
+fed_read bs b = rw (all_more bs b) (go (all_digits bs) (is_digit b) refl)
   where
     capped : min (10 * min (value bs) past_round + (b - 48)) past_round ≡ min (value_from 0 (bs ++ b ∷ [])) past_round
     capped = rw (value_more bs 0 b) (omega arith)
 
-    go : (t d : Bool) → (let s : Reader = pick t (record { valid = true; year = min (value bs) past_round }) not_digits in
-        pick s.valid (pick d (record { valid = true; year = min (10 * s.year + (b - 48)) past_round }) not_digits) s ≡ pick (t && d) (record { valid = true; year = min (value_from 0 (bs ++ b ∷ [])) past_round }) not_digits)
-    go true true = rw capped
-    go true false = refl
-    go false true = refl
-    go false false = refl
+    go : (t d : Bool) → is_digit b ≡ d → fed_number (pick t (digits_of (value bs)) not_digits).number b ≡ pick (t && d) (digits_of (value_from 0 (bs ++ b ∷ []))) not_digits
+    go true true e = rw (e, capped)
+    go true false e = rw e
+    go false true e = refl
+    go false false e = refl
 
 -- A LINE'S YEAR: the reader ends with the year that the line asks for, or with one past every year where that is more
-pub line_year : (bs : List ℕ) → (read_of bs).year ≡ min (year_of_line bs) past_round
+pub line_year : (bs : List ℕ) → year_read (read_of bs) ≡ min (year_of_line bs) past_round
 unfolding read_of
 line_year bs = go (all_digits bs)
   where
-    go : (t : Bool) → (pick t (record { valid = true; year = min (value bs) past_round }) not_digits).year ≡ min (pick t (value bs) 0) past_round
+    go : (t : Bool) → year_read (pick t (digits_of (value bs)) not_digits) ≡ min (pick t (value bs) 0) past_round
     go true = refl
     go false = refl
 
@@ -87,12 +87,12 @@ module _ (input : List ℕ) (s : Reader) (i : ℕ) (f : Sofar input s i) where
       let rest : drop i input ≡ get_or input i 0 ∷ drop (i + 1) input = rw (add-one i) (drop-cons input i 0 h) in
       ap (asked s) (sym rest) ∙ f.same
 
-  pub sofar_year : (y : ℕ) → i < length input → Step.Year y ≡ stepped s (get_or input i 0) → y ≡ asked (read_of []) input
-  sofar_year y h e = ap (λ (x : Step). year_or x (λ t. asked t (drop (i + 1) input))) e ∙ next h
+  pub sofar_year : (y : ℕ) → i < length input → Break y ≡ stepped s (get_or input i 0) → y ≡ asked (read_of []) input
+  sofar_year y h e = ap (λ (x : ControlFlow ℕ Reader). year_or x (λ t. asked t (drop (i + 1) input))) e ∙ next h
 
-  pub sofar_more : (t : Reader) → i < length input → Step.More t ≡ stepped s (get_or input i 0) → Sofar input t (i + 1)
-  sofar_more t h e = record { index = omega arith; same = ap (λ (x : Step). year_or x (λ u. asked u (drop (i + 1) input))) e ∙ next h }
+  pub sofar_more : (t : Reader) → i < length input → Continue t ≡ stepped s (get_or input i 0) → Sofar input t (i + 1)
+  sofar_more t h e = record { index = omega arith; same = ap (λ (x : ControlFlow ℕ Reader). year_or x (λ u. asked u (drop (i + 1) input))) e ∙ next h }
 
-  pub sofar_end : length input ≤ i → s.year ≡ asked (read_of []) input
+  pub sofar_end : length input ≤ i → year_read s ≡ asked (read_of []) input
   unfolding asked
   sofar_end h = ap (asked s) (sym (drop_of_length-le input h)) ∙ f.same

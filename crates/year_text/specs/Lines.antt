@@ -1,11 +1,12 @@
 -- The line that the year printer reads (01, "Cases at the edges").
 -- Assumes nothing.
-use Rattle.std.specs.Prelude.{Bool, true, false, not, ◌||◌, List, [], ◌∷◌, ℕ, suc, ◌+◌, ◌-◌, ◌*◌, min, eqb, ltb}
+use Rattle.std.specs.Prelude.{Option, None, Some, unwrap_or, Bool, true, List, [], ◌∷◌, ℕ, suc, ◌+◌, ◌-◌, ◌*◌, min, eqb, ltb}
+use Rattle.std.specs.declared.ops.ControlFlow.{ControlFlow}
+use Rattle.std.specs.declared.ops.ControlFlow.TheVariants.{Break, Continue}
 use Rattle.reckoning.specs.Search.{pick}
 use Rattle.units.specs.Xinghe.{round_years}
 use Rattle.year_text.specs.Decimal.{is_digit, all_digits, value}
 use Rattle.year_text.specs.declared.reader.Reader.{Reader}
-use Rattle.year_text.specs.declared.reader.Step.{Step}
 
 -- the line ends at the first newline byte or at the end of the input
 unfoldable pub line_of : List ℕ → List ℕ
@@ -20,30 +21,45 @@ year_of_line bs = pick (all_digits bs) (value bs) 0
 abbrev pub past_round : ℕ
 past_round = suc round_years
 
--- the reader's state after the bytes of a line so far: whether all were digits, and their number, or one past every year where it is more
+-- the reader's state after the bytes of a line so far: where all were digits their number, or one past every year where it is more; else nothing
 abbrev pub not_digits : Reader
-not_digits = record { valid = false; year = 0 }
+not_digits = record { number = None }
+
+abbrev pub digits_of : ℕ → Reader
+digits_of n = record { number = Some (min n past_round) }
 
 unfoldable pub read_of : List ℕ → Reader
-read_of bs = pick (all_digits bs) (record { valid = true; year = min (value bs) past_round }) not_digits
+read_of bs = pick (all_digits bs) (digits_of (value bs)) not_digits
+
+-- the year of a line that ends there: 0, which is no year, where not all were digits
+abbrev pub year_read : Reader → ℕ
+year_read s = unwrap_or s.number 0
 
 -- a state after one byte more
+abbrev pub fed_number : Option ℕ → ℕ → Reader
+fed_number (Some n) b = pick (is_digit b) (digits_of (10 * n + (b - 48))) not_digits
+fed_number None b = not_digits
+
 unfoldable pub fed : Reader → ℕ → Reader
-fed s b = pick s.valid (pick (is_digit b) (record { valid = true; year = min (10 * s.year + (b - 48)) past_round }) not_digits) s
+fed s b = fed_number s.number b
 
 -- the line so far can't become a year of the round, whatever follows: it has a byte that is no digit, or its number is past the round
+abbrev pub past_or_none : Option ℕ → Bool
+past_or_none (Some n) = ltb round_years n
+past_or_none None = true
+
 abbrev pub is_settled : Reader → Bool
-is_settled s = not s.valid || ltb round_years s.year
+is_settled s = past_or_none s.number
 
 -- what a byte more makes of a line: the year that it asks for, where it ends or is settled, or the state that reads on
-unfoldable pub stepped : Reader → ℕ → Step
-stepped s b = pick (eqb b 10) (Step.Year s.year) (pick (is_settled (fed s b)) (Step.Year (fed s b).year) (Step.More (fed s b)))
+unfoldable pub stepped : Reader → ℕ → ControlFlow ℕ Reader
+stepped s b = pick (eqb b 10) (Break (year_read s)) (pick (is_settled (fed s b)) (Break (year_read (fed s b))) (Continue (fed s b)))
 
 -- the year that an input asks for, read byte by byte from a state on; where the input ends, that of the bytes so far
-abbrev pub year_or : Step → (Reader → ℕ) → ℕ
-year_or (Step.Year y) f = y
-year_or (Step.More s) f = f s
+abbrev pub year_or : ControlFlow ℕ Reader → (Reader → ℕ) → ℕ
+year_or (Break y) f = y
+year_or (Continue s) f = f s
 
 unfoldable pub asked : Reader → List ℕ → ℕ
-asked s [] = s.year
+asked s [] = year_read s
 asked s (b ∷ bs) = year_or (stepped s b) (λ t. asked t bs)

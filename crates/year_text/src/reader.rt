@@ -1,7 +1,8 @@
 // Reading a line, fed one byte at a time, in fixed memory.
 ghost use Rattle.std.specs.Prelude.{◌≡◌, [], ◌+◌, ◌*◌, ◌<◌, min};
-ghost use Rattle.year_text.specs.Lines.{past_round, not_digits, read_of, fed, is_settled, stepped, asked};
+ghost use Rattle.year_text.specs.Lines.{past_round, not_digits, read_of, year_read, fed, is_settled, stepped, asked};
 
+use std::ops::ControlFlow;
 use units::Xinghe;
 
 // One past every year of the round, which stands for all that are past it.
@@ -9,37 +10,24 @@ const PAST_ROUND: u64 = Xinghe::YEARS + 1;
 
 #[derive(Clone, Copy)]
 pub struct Reader {
-    // every byte so far was a digit
-    pub valid: bool,
-    // their number, or one past every year where it is more; 0 for a line with any other byte
-    pub year: u64,
-}
-
-// What a byte more makes of a line: the year that it asks for, where it ends or is settled, or a reader of the next byte.
-#[derive(Clone, Copy)]
-pub enum Step {
-    Year(u64),
-    More(Reader),
+    // the number of the line's digits, or one past every year where it is more; none, once any other byte has come
+    pub number: Option<u64>,
 }
 
 impl Reader {
     pub fn new() -> Reader
         ensures { result ≡ read_of [] }
     {
-        Reader {
-            valid: true,
-            year: 0,
-        }
+        Reader { number: Some(0) }
     }
 
     // One byte more of the line, whatever the bytes before it were.
     pub fn feed(self, byte: u8) -> Reader
         ensures { result ≡ fed self byte }
     {
-        let valid = self.valid;
-        if !valid {
+        let Some(number) = self.number else {
             return self;
-        }
+        };
         if byte < 48 {
             return refused();
         }
@@ -47,8 +35,7 @@ impl Reader {
             return refused();
         }
         Reader {
-            valid: true,
-            year: longer(self.year, (byte - 48) as u64),
+            number: Some(longer(number, u64::from(byte - 48))),
         }
     }
 
@@ -56,30 +43,38 @@ impl Reader {
     pub fn settled(self) -> bool
         ensures { result ≡ is_settled self }
     {
-        !self.valid | (Xinghe::YEARS < self.year)
+        match self.number {
+            Some(number) => Xinghe::YEARS < number,
+            None => true,
+        }
     }
 
-    pub fn step(self, byte: u8) -> Step
+    // The year that the line asks for, where it ends here: 0, which is no year, where it has any byte but a digit.
+    pub fn year(self) -> u64
+        ensures { result ≡ year_read self }
+    {
+        self.number.unwrap_or(0)
+    }
+
+    // What a byte more makes of a line: the year that it asks for, where it ends or is settled, or a reader of the next byte.
+    pub fn step(self, byte: u8) -> ControlFlow<u64, Reader>
         ensures { result ≡ stepped self byte }
     {
         if byte == b'\n' {
-            return Step::Year(self.year);
+            return ControlFlow::Break(self.year());
         }
         let next = self.feed(byte);
         if next.settled() {
-            return Step::Year(next.year);
+            return ControlFlow::Break(next.year());
         }
-        Step::More(next)
+        ControlFlow::Continue(next)
     }
 }
 
 fn refused() -> Reader
     ensures { result ≡ not_digits }
 {
-    Reader {
-        valid: false,
-        year: 0,
-    }
+    Reader { number: None }
 }
 
 // A number with a digit more at its end, but at the most one past every year.
@@ -90,12 +85,7 @@ fn longer(year: u64, digit: u64) -> u64
     if PAST_ROUND / 10 < year {
         return PAST_ROUND;
     }
-    let number = 10 * year + digit;
-    if number <= PAST_ROUND {
-        number
-    } else {
-        PAST_ROUND
-    }
+    PAST_ROUND.min(10 * year + digit)
 }
 
 // The year that an input asks for, byte by byte, as the printer reads it.
@@ -103,14 +93,11 @@ pub fn year_asked(input: &[u8]) -> u64
     ensures { result ≡ asked (read_of []) input.now }
 {
     let mut reader = Reader::new();
-    let mut i = 0;
-    while i < input.len() {
-        let byte = input[i];
-        i += 1;
+    for &byte in input {
         match reader.step(byte) {
-            Step::Year(year) => return year,
-            Step::More(next) => reader = next,
+            ControlFlow::Break(year) => return year,
+            ControlFlow::Continue(next) => reader = next,
         }
     }
-    reader.year
+    reader.year()
 }

@@ -88,9 +88,8 @@ fn put_moon(out: &mut [u8], at: usize, row: MonthRow) -> usize
     requires { at + 63 ≤ length out.old }
     ensures { Wrote out.old out.new at result (moon_text row) }
 {
-    let remainder = row.remainder;
     let a = put_field(out, at, lunisolar::sixty::sexagenary(row.day), 32);
-    let b = put_field(out, a, remainder.parts, 32);
+    let b = put_field(out, a, row.remainder.parts, 32);
     put_field(out, b, row.length, 10)
 }
 
@@ -108,11 +107,8 @@ fn put_rows(out: &mut [u8], at: usize, rows: [MonthRow; 13], count: usize) -> us
     ensures { Wrote out.old out.new at result (row_lines (take count rows)) }
 {
     let mut end = at;
-    let mut i = 0;
-    while i < count {
-        let row = rows[i];
+    for &row in &rows[..count] {
         end = put_row(out, end, row);
-        i += 1;
     }
     end
 }
@@ -131,12 +127,10 @@ pub fn render(year: u64, out: &mut [u8; 2048]) -> usize
     ensures { (result ≡ length (text_of year)) × (out.new ≡ after_text (text_of year) out.old) }
 {
     let listed = year_list::year_by_value(year);
-    let head = listed.head;
-    let rows = listed.rows;
-    match head {
+    match listed.head {
         Ok(head) => {
             let end = put_head(out, 0, year, head);
-            put_rows(out, end, rows, head.months as usize)
+            put_rows(out, end, listed.rows, head.months as usize)
         }
         Err(e) => put_refusal(out, 0, e),
     }

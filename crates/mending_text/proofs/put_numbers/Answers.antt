@@ -6,18 +6,17 @@ use Rattle.year_text.proofs.Lengths.{field_length}
 use Rattle.mending_text.specs.Report.{number_line}
 use Rattle.mending_text.proofs.put_numbers.Goals as goal
 
-pub loop-i-init : goal.loop-i-init
+pub loop-number-init : goal.loop-number-init
 unfolding texts
-loop-i-init c = (omega arith, wrote_none c.args.out.now 0)
+loop-number-init c = wrote_none c.args.out.now 0
 
 pub put_field-end-requires : goal.put_field-end-requires
 put_field-end-requires c =
-    let l = c.loop-i in
+    let l = c.loop-number in
     let ns = c.args.numbers.now in
-    omega (arith, l.invariant.1.long, l.invariant.1.next, texts_length number_line 21 (λ n. field_length n 10) (take l.i ns), length-take l.i ns, c.requires, c.loop-i-test.true)
+    omega (arith, l.invariant.long, l.invariant.next, texts_length number_line 21 (λ n. field_length n 10) (take l.number-index ns), length-take l.number-index ns, c.requires)
 
-pub loop-i-preserved : goal.loop-i-preserved
-loop-i-preserved c =
-    let l = c.loop-i in
-    let ns = c.args.numbers.now in
-    (omega arith, rw (texts_more number_line ns l.i 0 c.loop-i-test.true) (and_then l.invariant.1 c.put_field-end.ensures))
+pub loop-number-preserved : goal.loop-number-preserved
+loop-number-preserved c =
+    let l = c.loop-number in
+    rw (texts_more number_line c.args.numbers.now l.number-index 0 (omega arith)) (and_then l.invariant c.put_field-end.ensures)

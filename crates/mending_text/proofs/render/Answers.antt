@@ -26,8 +26,8 @@ slice_bounds-put_numbers-end-in-Ok c =
     let count : length (damaged c.args.volume.now) ≡ c.in-Ok.n = (noted c.args.volume.now [] c.in-Ok.n mended).count in
     sym (ap length indices ∙ count)
 
-pub put_field-all-requires : goal.put_field-all-requires
-put_field-all-requires c =
+pub put_field-requires : goal.put_field-requires
+put_field-requires c =
     let mended : mend_answer c.args.volume.now ≡ Ok c.in-Ok.n = sym c.mend.ensures.0 ∙ c.in-Ok.is in
     let few : c.in-Ok.n ≤ 1024 = (noted c.args.volume.now [] c.in-Ok.n mended).few in
     let indices : take c.in-Ok.n c.mend.new.list ≡ damaged c.args.volume.now = ap (take c.in-Ok.n) c.mend.ensures.2 ∙ (noted c.args.volume.now _ c.in-Ok.n mended).front in
@@ -44,12 +44,12 @@ returns-in-Ok c =
     let m = mended in
     let after = c.mend.ensures.1 in
     let w = rw indices at c.put_numbers-end.ensures in
-    let t = from_front (and_then w c.put_field-all.ensures) in
+    let t = from_front (and_then w c.put_field.ensures) in
     (rw (t.0, after, m) refl, after, rw m t.1)
 
 pub returns-in-Err : goal.returns-in-Err
 unfolding lines_for volume_for
 returns-in-Err c =
     let m : mend_answer c.args.volume.now ≡ Err c.in-Err.e = sym c.mend.ensures.0 ∙ c.in-Err.is in
-    let t = from_front c.put_refusal-all.ensures in
+    let t = from_front c.put_refusal.ensures in
     (rw (t.0, m) refl, c.mend.ensures.1, rw m t.1)

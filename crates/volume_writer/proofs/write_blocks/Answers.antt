@@ -1,12 +1,12 @@
-use Rattle.std.proofs.Common.{◌+◌, arith}
+use Rattle.std.proofs.Common.{arith}
 use Rattle.volumes.proofs.Runs.{is_run_lem}
 use Rattle.volume_writer.proofs.write_blocks.Goals as goal
 
-pub block-block-requires : goal.block-block-requires
-block-block-requires g c =
-    is_run_lem c.args.first (c.args.first + c.loop-i.i)
+pub block-requires : goal.block-requires
+block-requires g c =
+    is_run_lem c.args.first c.loop-year.year
     (record {
       least = c.requires.0;
       order = omega arith;
-      most = omega (arith, c.requires.1, c.loop-i-test.true);
+      most = omega (arith, c.requires.1);
     })

@@ -1,7 +1,8 @@
-use native.Mathlib.Omega.{arith}
-use Rattle.writing.proofs.Writings.{text_more}
+use Rattle.std.proofs.Common.{arith}
+use Rattle.writing.proofs.Writings.{wrote_part}
 use Rattle.writing.proofs.put_text.Goals as goal
 
-pub loop-i-preserved : goal.loop-i-preserved
-loop-i-preserved c =
-    (omega arith, text_more c.args.out.now c.loop-i.out c.args.text.now c.args.at c.loop-i.i c.loop-i-test.true c.requires c.loop-i.invariant.1)
+pub returns : goal.returns
+returns c =
+    let text = c.args.text.now in
+    wrote_part c.args.out.now text c.copy_from_slice.new.self c.args.at _ c.copy_from_slice.ensures.after (omega arith) c.requires

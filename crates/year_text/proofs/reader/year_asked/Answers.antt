@@ -1,17 +1,18 @@
 use mathlib.Core.Path.{sym, ◌∙◌}
+use native.Mathlib.Omega.{arith}
 use Rattle.year_text.proofs.Readings.{sofar_year, sofar_more, sofar_end}
 use Rattle.year_text.proofs.reader.year_asked.Goals as goal
 
-pub returns-in-Year : goal.returns-in-Year
-returns-in-Year c =
-    sofar_year c.args.input.now c.loop-i.reader c.loop-i.i c.loop-i.invariant c.in-Year.year
-    c.loop-i-test.true (sym c.in-Year.is ∙ c.step.ensures)
+pub returns-in-Break : goal.returns-in-Break
+returns-in-Break c =
+    sofar_year c.args.input.now c.loop-byte.reader c.loop-byte.byte-index c.loop-byte.invariant c.in-Break.year
+    (omega arith) (sym c.in-Break.is ∙ c.step.ensures)
 
-pub loop-i-preserved : goal.loop-i-preserved
-loop-i-preserved c =
-    sofar_more c.args.input.now c.loop-i.reader c.loop-i.i c.loop-i.invariant c.in-More.next
-    c.loop-i-test.true (sym c.in-More.is ∙ c.step.ensures)
+pub loop-byte-preserved : goal.loop-byte-preserved
+loop-byte-preserved c =
+    sofar_more c.args.input.now c.loop-byte.reader c.loop-byte.byte-index c.loop-byte.invariant c.in-Continue.next
+    (omega arith) (sym c.in-Continue.is ∙ c.step.ensures)
 
 pub returns : goal.returns
 returns c =
-    sofar_end c.args.input.now c.loop-i.reader c.loop-i.i c.loop-i.invariant c.loop-i-test.false
+    c.year.ensures ∙ sofar_end c.args.input.now c.loop-byte.reader c.loop-byte.byte-index c.loop-byte.invariant (omega arith)

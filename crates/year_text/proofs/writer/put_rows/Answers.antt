@@ -7,15 +7,19 @@ use Rattle.writing.proofs.Writings.{wrote_none, and_then, texts_more}
 use Rattle.year_text.proofs.Lengths.{lines_length}
 use Rattle.year_text.proofs.writer.put_rows.Goals as goal
 
-pub loop-i-init : goal.loop-i-init
+pub loop-row-init : goal.loop-row-init
 unfolding texts
-loop-i-init c = (omega arith, wrote_none c.args.out.now c.args.at)
+loop-row-init c = wrote_none c.args.out.now c.args.at
 
 pub put_row-end-requires : goal.put_row-end-requires
 put_row-end-requires c =
-    omega (arith, c.loop-i.invariant.1.long, c.loop-i.invariant.1.next, lines_length (take c.loop-i.i c.args.rows), length-take c.loop-i.i c.args.rows, c.requires.1)
+    let l = c.loop-row in
+    let first = take c.args.count c.args.rows in
+    omega (arith, l.invariant.long, l.invariant.next, lines_length (take l.row-index first), length-take l.row-index first, length-take c.args.count c.args.rows, c.requires.0, c.requires.1)
 
-pub loop-i-preserved : goal.loop-i-preserved
-loop-i-preserved c =
-    let more = texts_more month_line c.args.rows c.loop-i.i zero_row (omega arith) in
-    (omega arith, rw more (and_then c.loop-i.invariant.1 c.put_row-end.ensures))
+pub loop-row-preserved : goal.loop-row-preserved
+loop-row-preserved c =
+    let l = c.loop-row in
+    let first = take c.args.count c.args.rows in
+    let more = texts_more month_line first l.row-index zero_row (omega (arith, length-take c.args.count c.args.rows)) in
+    rw more (and_then l.invariant c.put_row-end.ensures)

@@ -13,10 +13,10 @@ use Rattle.year_text.proofs.Lengths.{head_length}
 use Rattle.year_text.proofs.writer.render.Goals as goal
 
 -- the head that the match binds is the year's, and so are the rows
-is_head : (a : goal.After-put_rows-arg-1) → Ok a.in-Ok.head ≡ year_head a.args.year
+is_head : (a : goal.After-put_rows-arg-in-Ok-1) → Ok a.in-Ok.head ≡ year_head a.args.year
 is_head a = sym a.in-Ok.is ∙ ap (λ (x : YearRows). x.head) a.year_by_value-listed.ensures
 
-are_rows : (a : goal.After-put_rows-arg-1) →
+are_rows : (a : goal.After-put_rows-arg-in-Ok-1) →
     (let h = a.in-Ok.head in take h.months a.year_by_value-listed.result.rows ≡ rows_from a.args.year 0 h.months)
 are_rows a =
     rw a.year_by_value-listed.ensures (front_rows a.args.year a.in-Ok.head (is_head a))

@@ -3,4 +3,4 @@ use Rattle.volume_text.proofs.reader.SpanReader.new.Goals as goal
 
 pub returns : goal.returns
 unfolding span_read has_blank before_blank after_blank
-returns c = rw (c.new-first.ensures, c.new-last.ensures)
+returns c = rw c.new.ensures
