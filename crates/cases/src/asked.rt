@@ -10,15 +10,8 @@ use lines::digest::Digest;
 use mean_calendar::MeanMonth;
 use refusal::Refusal;
 use std::io;
+use walking::Walked;
 use zhengguang::{Zhengguang, ZhengguangRow};
-
-// Where a walk ended, the sum of the answered counts and how many they were.
-#[derive(Clone, Copy)]
-pub struct Walked<R> {
-    pub row: R,
-    pub sum: i64,
-    pub answered: usize,
-}
 
 pub trait Asked: Calendar {
     // How many months the calendar has.
@@ -73,14 +66,6 @@ fn digest_of<C: Calendar>(head: C::Head, rows: &[C::Row]) -> Digest {
     digest
 }
 
-fn linde_walked(end: mean_walk::MeanWalk) -> Walked<MeanMonth> {
-    Walked {
-        row: end.month,
-        sum: end.sum,
-        answered: end.answered,
-    }
-}
-
 impl Asked for Linde {
     ghost months = { lunations };
 
@@ -107,7 +92,7 @@ impl Asked for Linde {
     }
 
     fn walk(row: MeanMonth, counts: &[i64]) -> Result<Walked<MeanMonth>, Refusal> {
-        Linde::walk(row, counts).map(linde_walked)
+        Linde::walk(row, counts)
     }
 
     fn carry_forged(row: MeanMonth, field: usize) -> Result<MeanMonth, Refusal> {
@@ -123,7 +108,7 @@ impl Asked for Linde {
     ) -> Result<Walked<MeanMonth>, Refusal> {
         let mut numbers = row.fields();
         change(&mut numbers, field);
-        Linde::walk_fields(&numbers, counts).map(linde_walked)
+        Linde::walk_fields(&numbers, counts)
     }
 
     fn list_digest(year: u64) -> Result<Digest, Refusal> {
@@ -133,14 +118,6 @@ impl Asked for Linde {
 
     fn ask_more(_rt: &impl Print, _year: u64, _place: u64) -> io::Result<()> {
         Ok(())
-    }
-}
-
-fn zhengguang_walked(end: zhengguang::walks::ZhengguangWalk) -> Walked<ZhengguangRow> {
-    Walked {
-        row: end.row,
-        sum: end.sum,
-        answered: end.answered,
     }
 }
 
@@ -170,7 +147,7 @@ impl Asked for Zhengguang {
     }
 
     fn walk(row: ZhengguangRow, counts: &[i64]) -> Result<Walked<ZhengguangRow>, Refusal> {
-        zhengguang::walks::walk(row, counts).map(zhengguang_walked)
+        zhengguang::walks::walk(row, counts)
     }
 
     fn carry_forged(row: ZhengguangRow, field: usize) -> Result<ZhengguangRow, Refusal> {
@@ -186,7 +163,7 @@ impl Asked for Zhengguang {
     ) -> Result<Walked<ZhengguangRow>, Refusal> {
         let mut numbers = row.fields();
         change(&mut numbers, field);
-        zhengguang::walks::walk_fields(&numbers, counts).map(zhengguang_walked)
+        zhengguang::walks::walk_fields(&numbers, counts)
     }
 
     fn list_digest(year: u64) -> Result<Digest, Refusal> {

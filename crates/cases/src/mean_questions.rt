@@ -2,11 +2,12 @@
 // refusal.
 ghost use Rattle.std.specs.Prelude.{◌<◌};
 
-use crate::asked::{Asked, Walked};
+use crate::asked::Asked;
 use lines::{Line, answers};
 use mean_year::PLACES;
 use refusal::Refusal;
 use std::io;
+use walking::Walked;
 
 // One place more than a year may have, so that one is always refused.
 const PLACES_ASKED: u64 = PLACES as u64 + 1;

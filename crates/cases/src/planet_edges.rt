@@ -46,10 +46,9 @@ fn write_stages(rt: &impl Print, planet: u64, stages: [Stage; 14]) -> io::Result
 
 fn ask_stages(rt: &impl Print, planet: u64) -> io::Result<()> {
     let line = Line::new().text(b"stages").number(planet);
-    let answer = planets::stages(planet);
-    match answer.count {
-        Ok(count) => {
-            line.number(count).write(rt)?;
+    match planets::stages(planet) {
+        Ok(answer) => {
+            line.number(answer.count).write(rt)?;
             write_stages(rt, planet, answer.stages)
         }
         Err(refusal) => line.refuse(rt, refusal),
