@@ -51,6 +51,7 @@ pub trait Asked: Calendar {
     fn ask_more(rt: &impl Print, year: u64, place: u64) -> io::Result<()>;
 }
 
+// One of the numbers becomes another.
 fn change(numbers: &mut [u64], field: usize) {
     if let Some(number) = numbers.get_mut(field) {
         *number = number.wrapping_add(1);

@@ -26,10 +26,8 @@ fn ask_fill(rt: &impl Print, year: u64, have: usize) -> io::Result<()>
     requires { have ≤ 13 }
 {
     let line = Line::new().text(b"fill").number(year).number(have as u64);
-    match year_list::answer_for(calendar::heads::year_head(year), have) {
-        Ok(count) => line.number(count).write(rt)?,
-        Err(refusal) => line.refuse(rt, refusal)?,
-    }
+    let answer = year_list::answer_for(calendar::heads::year_head(year), have);
+    line.answer(rt, answer, |line, count| line.number(count))?;
     let rows = year_list::fill_front(array::from_fn(marked), have, year);
     write_lent(rt, &rows[..have])
 }
