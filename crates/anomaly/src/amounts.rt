@@ -6,7 +6,7 @@ ghost use Rattle.anomaly.specs.Amounts.{sized_of, amount_of, raises, changed, Lo
 use units::Xinghe;
 use walking::Sign;
 
-// A signed amount by its sign and its size.
+// A signed amount by its sign and its size: a minus 0 differs from 0, so that no `i64` holds it.
 #[derive(Clone, Copy)]
 pub struct Amount {
     pub minus: bool,

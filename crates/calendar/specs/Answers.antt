@@ -1,6 +1,6 @@
 -- Each answer's number, 0 where it is answered, and its values, all zero where it is refused (01, "Numbers returned").
 -- Assumes nothing.
-use Rattle.std.specs.Prelude.{false, ℕ}
+use Rattle.std.specs.Prelude.{false}
 use Rattle.node.specs.declared.Side.{Side}
 use Rattle.calendar.specs.declared.YearHead.{YearHead}
 use Rattle.calendar.specs.declared.MonthRow.{MonthRow}

@@ -1,6 +1,6 @@
 -- Rows carried by signed counts of months (01, "Walks"): the carry of any calendar of a round, at the Xinghe.
 -- Assumes nothing.
-use Rattle.std.specs.Prelude.{Result, Ok, Err, Bool, List, ℕ, ℤ}
+use Rattle.std.specs.Prelude.{Result, Bool, List, ℕ, ℤ}
 use Rattle.refusal.specs.declared.Refusal.{Refusal}
 use Rattle.units.specs.Xinghe.{round_months}
 use Rattle.walking.specs.Walk.{Calendar, carry}

@@ -6,7 +6,6 @@ ghost use Rattle.std.specs.Prelude.{◌≡◌};
 ghost use Rattle.calendar.specs.Answers.{zero_row};
 
 use node::Side;
-use refusal::Refusal;
 use sun::Solstice;
 use units::remainder::DayRemainder;
 

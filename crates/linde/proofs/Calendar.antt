@@ -18,7 +18,6 @@ use Rattle.mean_calendar.specs.declared.MeanMonth.{MeanMonth}
 use Rattle.mean_calendar.proofs.LeapYears as leap-years
 use Rattle.mean_calendar.proofs.LeapYears.{Twelve, Thirteen}
 use Rattle.mean_calendar.proofs.Stays as any-calendar
-use Rattle.mean_walk.specs.Walked.{walked}
 use Rattle.mean_walk.proofs.Demand3 as any-walk
 use Rattle.linde.specs.Linde.{N, D, P, year_parts, years, lunations, days, linde, means, rule}
 use Rattle.linde.proofs.Sound.{sound}

@@ -5,7 +5,6 @@ ghost use Rattle.reckoning.specs.Means.{new_moon};
 ghost use Rattle.reckoning.specs.Dates.{month_of};
 ghost use Rattle.lunisolar.specs.Calendars.{InCalendar, means_of, rule_of};
 ghost use Rattle.lunisolar.specs.Dates.{day_in, day_for, day_of_date, date_in, date_of_day};
-ghost use Rattle.lunisolar.specs.Answers.{zero_day, zero_date};
 
 use crate::means::{month_length, month_of_day, new_moon_day};
 use crate::rule::{begun, year_of};

@@ -84,7 +84,8 @@ fn leap_beside(year: Year, near: u64) -> u64
     (near + 1 - come - had) * (month_count(year) - 12)
 }
 
-// What a year has of its months: those before it, how many it has, and the place of the leap month (0 for none).
+// What a year has of its months: those before it, how many it has, and the place of the leap month, 0 for none as `leap_place` and the heads handed to
+// C have it.
 #[derive(Clone, Copy)]
 pub struct YearMonths {
     pub before: u64,

@@ -1,6 +1,6 @@
 // A year's head.
 ghost use Rattle.std.specs.Prelude.{◌≡◌, ◌<◌};
-ghost use Rattle.lunisolar.specs.Calendars.{rule_of, lunation_at};
+ghost use Rattle.lunisolar.specs.Calendars.{lunation_at};
 ghost use Rattle.mean_calendar.specs.Heads.{head_of, year_head};
 
 use crate::MeanHead;

@@ -3,7 +3,6 @@
 #![tactic(auto)]
 
 use parts::{DayParts, DegreeParts};
-use refusal::Refusal;
 
 pub mod carries;
 pub mod cuts;

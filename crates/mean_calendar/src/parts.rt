@@ -1,4 +1,5 @@
-// Remainders over a calendar's own two divisors: separate units, each with its own division.
+// Remainders over a calendar's own two divisors: separate units, each with its own division. The divisors are known only at run time, so no const
+// parameter can tell them apart, and a marker type would stand in every record of the definitions.
 ghost use Rattle.std.specs.Prelude.{◌≡◌};
 ghost use Rattle.mean_calendar.specs.Parts.{over_day, over_degree};
 

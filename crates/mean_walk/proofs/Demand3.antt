@@ -4,7 +4,6 @@ use Rattle.lunisolar.specs.declared.Constants.{Constants}
 use Rattle.walking.proofs.Demand.{Demand, demand}
 use Rattle.mean_calendar.specs.Carries.{months_of}
 use Rattle.mean_calendar.proofs.Lawful.{lawful}
-use Rattle.mean_walk.specs.Walked.{walked}
 
 -- WALKING AND DIRECT WORKING ARE ONE THING: for every month and every list of counts
 pub demand_3 : (k : Constants) → Demand (months_of k)

@@ -3,7 +3,7 @@
 
 ghost use Rattle.std.specs.Prelude.{◌≡◌};
 ghost use Rattle.mean_calendar.specs.Carries.{genuine_fields};
-ghost use Rattle.mean_walk.specs.Walked.{walk_answer_fields, zero_walk};
+ghost use Rattle.mean_walk.specs.Walked.{walk_answer_fields};
 
 use lunisolar::Calendar;
 use mean_calendar::MeanMonth;

@@ -28,6 +28,7 @@ pub struct NameLocation {
 }
 
 impl Whose {
+    // By name and not as `u64::from`: a list is a number only where it is handed to C.
     pub fn number(self) -> u64
         ensures { result ≡ whose_number self }
     {

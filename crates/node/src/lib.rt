@@ -24,7 +24,7 @@ pub enum Side {
 }
 
 impl Side {
-    // As lists and lines of numbers have it.
+    // As lists and lines of numbers have it. By name and not as `u64::from`: a side is a number only where it is handed to C.
     pub fn number(self) -> u64
         ensures { result ≡ side_number self }
     {
@@ -44,7 +44,8 @@ pub struct Distance {
     pub half: u64,
 }
 
-// Whether an eclipse is marked, its distance from the node and its size; zero where none is.
+// Whether an eclipse is marked, its distance from the node and its size; zero where none is, as `eclipse_of` and the list handed to C have it, so that
+// no use of it has an `Option` to take apart.
 #[derive(Clone, Copy, Default)]
 pub struct Eclipse {
     pub marked: bool,

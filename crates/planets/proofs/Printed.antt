@@ -1,6 +1,5 @@
 -- The stages as they are printed: they hang together, and the answer shows all of them.
 -- Assumes nothing.
-use Rattle.std.specs.Result.{result_unwrap_or}
 use mathlib.Core.Path.{◌≡◌, refl}
 use Prim.Native.Nat.{ℕ}
 use lib.Dec.{T}

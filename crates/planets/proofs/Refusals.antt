@@ -5,7 +5,6 @@ use Rattle.std.specs.Prelude.{Result, Ok, Err}
 use Rattle.refusal.specs.Numbers.{answer_number}
 use Rattle.std.specs.Result.{result_unwrap_or}
 use mathlib.Core.Path.{◌≡◌, ◌∙◌, refl, ap}
-use mathlib.Core.Bool.{Bool, true, false}
 use Prim.Native.Nat.{ℕ, ◌-◌}
 use lib.ListN.{length}
 use Rattle.reckoning.specs.Search.{pick}
@@ -15,7 +14,7 @@ use Rattle.units.specs.Xinghe.{is_year}
 use Rattle.units.proofs.Years.{of_year}
 use Rattle.planets.specs.Planets.{is_planet, planet_of}
 use Rattle.planets.specs.Answers.{conjunctions_of, zero_conjunctions}
-use Rattle.planets.specs.Stages.{stages_of, in_room, no_stages}
+use Rattle.planets.specs.Stages.{stages_of, in_room}
 use Rattle.planets.specs.Jobs.{conjunctions_in, conjunctions_for, conjunctions_at, stages_at, zero_stages, shown_stages}
 use Rattle.planets.specs.declared.StageList.{StageList}
 

@@ -1,10 +1,10 @@
-// Each answer's number, 0 where it is answered, and its values, all zero where it is refused; and what is answered by name, as numbers.
+// What is answered by name, as numbers.
 ghost use Rattle.std.specs.Prelude.{◌≡◌};
-ghost use Rattle.planets.specs.Answers.{apparition_number, stage_kind_number, zero_conjunctions};
+ghost use Rattle.planets.specs.Answers.{apparition_number, stage_kind_number};
 
-use crate::{Apparition, Conjunction, StageKind, TwoConjunctions};
-use units::remainder::{DegreeCarry, DegreeRemainder};
+use crate::{Apparition, StageKind};
 
+// By name and not as `u64::from`: these are numbers only in the rows that are handed to C.
 impl Apparition {
     pub fn number(self) -> u64
         ensures { result ≡ apparition_number self }

@@ -6,6 +6,7 @@ use crate::{Apparition, Stage, StageKind};
 use std::array;
 use units::remainder::DegreeRemainder;
 
+// The table's numbers by name. Any number has a kind, so that this is no `TryFrom`.
 fn kind_of(number: u64) -> StageKind
     ensures { result ≡ kind_of number }
 {

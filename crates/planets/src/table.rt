@@ -1,6 +1,7 @@
 // Each planet's stages, in print order, with room for the longest list. A row has the stage's ten numbers: days, their remainder, 1 where
 // it goes back, degrees, their remainder, daily motion as whole degrees, numerator and denominator, the number of its kind, that of morning
-// or evening. Numbers are constants that are quickly checked and copied; `decode` makes stages of them.
+// or evening. The rows are what C is handed, so kinds stand as numbers here and `decode` makes
+// stages of them. Each planet has a function of its own, since a constant is held to the treatise's list by the contract beside it.
 ghost use Rattle.std.specs.Prelude.{◌≡◌, map};
 ghost use Rattle.planets.specs.Stages.{jupiter_stages, mars_stages, saturn_stages, venus_stages, mercury_stages, in_room};
 ghost use Rattle.planets.specs.Answers.{stage_fields};

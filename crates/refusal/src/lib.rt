@@ -41,6 +41,7 @@ pub enum Refusal {
 }
 
 impl Refusal {
+    // By name and not as `u64::from`: a refusal is no number but where it is handed to C, which is told these.
     pub fn number(self) -> u64
         ensures { result ≡ number_of self }
     {

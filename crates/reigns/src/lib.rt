@@ -2,7 +2,7 @@
 #![tactic(auto)]
 
 ghost use Rattle.std.specs.Prelude.{◌≡◌, length};
-ghost use Rattle.reigns.specs.Marked.{in_volume, none_below, from_last, from_both, marked_answer, marked_moons};
+ghost use Rattle.reigns.specs.Marked.{in_volume, none_below, from_last, from_both, marked_answer};
 
 use blocks::{BLOCK, check};
 use refusal::Refusal;

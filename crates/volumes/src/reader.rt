@@ -1,7 +1,7 @@
 // The reader: the two years of a volume that the writer wrote. It goes from block to block, so that a volume that comes in pieces is read by the
 // same steps.
 ghost use Rattle.std.specs.Prelude.{◌≡◌, length};
-ghost use Rattle.volumes.specs.Reader.{read_answer, read_years};
+ghost use Rattle.volumes.specs.Reader.{read_answer};
 ghost use Rattle.volumes.specs.Stream.{held, read_on, finished};
 ghost use Rattle.volumes.specs.declared.reader.Reader.{Reader};
 
@@ -9,7 +9,8 @@ use blocks::BLOCK;
 use refusal::Refusal;
 use units::Xinghe;
 
-// What the blocks so far are: none; the writer's, from a first year to a last; or not the writer's.
+// What the blocks so far are: none; the writer's, from a first year to a last; or not the writer's. Three states, of which none is refused before the
+// bytes end.
 #[derive(Clone, Copy)]
 pub enum Reader {
     Empty,

@@ -16,7 +16,6 @@ use Rattle.calendar.specs.Carries.{months, carried}
 use Rattle.calendar.specs.declared.MonthRow.{MonthRow}
 use Rattle.calendar.proofs.Lawful.{lawful}
 use Rattle.calendar.proofs.Months.{moon_of, monthly}
-use Rattle.walk.specs.Walked.{walked}
 
 -- WALKING AND DIRECT WORKING ARE ONE THING: for every row and every list of counts
 pub demand_3 : Demand months

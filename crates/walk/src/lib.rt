@@ -2,7 +2,7 @@
 #![tactic(auto)]
 
 ghost use Rattle.std.specs.Prelude.{◌≡◌};
-ghost use Rattle.walk.specs.Walked.{walk_answer, walk_answer_fields, zero_walk};
+ghost use Rattle.walk.specs.Walked.{walk_answer, walk_answer_fields};
 
 use calendar::MonthRow;
 use calendar::rows::RowFields;

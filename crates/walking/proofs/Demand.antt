@@ -4,7 +4,6 @@
 use Rattle.std.specs.Prelude.{Ok, Err}
 use Rattle.refusal.specs.declared.Refusal.{Refusal}
 use Rattle.std.proofs.Common.{◌≡◌, ℕ, Bool, true, false, ◌↔◌, List, ℤ, refl, arith}
-use Rattle.reckoning.specs.Search.{pick}
 use Rattle.walking.specs.Walk.{Calendar, genuine, Genuine, carry, walked, walk_answer}
 use Rattle.walking.proofs.Walks.{Lawful, genuine_row, row_genuine, four}
 use Rattle.walking.proofs.Theorem as over_any

@@ -2,7 +2,7 @@
 ghost use Rattle.std.specs.Prelude.{◌≡◌, length};
 ghost use Rattle.walking.specs.Fields.{bit_of, same_fields};
 
-// Yes is 1 and no is 0.
+// Yes is 1 and no is 0: `as u64` with a contract that rows cite.
 pub fn bit(yes: bool) -> u64
     ensures { result ≡ bit_of yes }
 {

@@ -11,7 +11,7 @@ use native.Mathlib.Nat.{add-zero, zero-add}
 use native.Mathlib.Numerals.{add-one}
 use native.Mathlib.Omega.{arith}
 use lib.Dec.{leb}
-use lib.ListN.{length, drop, set, length-append, length-drop}
+use lib.ListN.{length, drop, set}
 use lib.Seq.{drop-cons, set_at}
 use borrow.Author.Tests.{leb-true}
 use Rattle.reckoning.specs.Search.{pick}

@@ -24,7 +24,7 @@ use Rattle.mean_calendar.proofs.LeapYears.{Twelve, Thirteen}
 use Rattle.mean_calendar.proofs.Stays.{month_to_place}
 use Rattle.zhengguang.specs.Zhengguang.{N, P, M, round_years, round_months, round_days, zhengguang, means, rule}
 use Rattle.zhengguang.specs.Rows.{row_of, row_for, month_row}
-use Rattle.zhengguang.specs.Carries.{rows, carried, walked}
+use Rattle.zhengguang.specs.Carries.{rows, carried}
 use Rattle.zhengguang.specs.declared.ZhengguangRow.{ZhengguangRow}
 use Rattle.zhengguang.proofs.Sound.{sound}
 use Rattle.zhengguang.proofs.Lawful.{lawful}

@@ -1,4 +1,5 @@
-// A row carried by a signed count of months.
+// A row carried by a signed count of months. Alike in each calendar: over a trait, its size, rows, test and laws as members and a type for the Xinghe
+// beside its rows would take more lines than these functions and `walk_fields` have.
 ghost use Rattle.std.specs.Prelude.{◌≡◌, pos, negsuc};
 ghost use Rattle.zhengguang.specs.Carries.{carried, genuine_fields, carried_fields};
 

@@ -1,6 +1,6 @@
 // A walk: a row carried by each of a list of signed counts in turn.
 ghost use Rattle.std.specs.Prelude.{◌≡◌};
-ghost use Rattle.zhengguang.specs.Carries.{walk_answer, walk_answer_fields, zero_walk};
+ghost use Rattle.zhengguang.specs.Carries.{walk_answer, walk_answer_fields};
 
 use crate::carries::is_genuine;
 use crate::rows::{RowFields, row_of};

@@ -1,10 +1,7 @@
-use Rattle.std.specs.Prelude.{Ok}
 use native.Mathlib.Omega.{arith}
-use mathlib.Core.Path.{◌≡◌, ◌∙◌, sym}
-use Rattle.lunisolar.specs.Calendars.{year_at}
+use mathlib.Core.Path.{◌≡◌, ◌∙◌}
 use Rattle.lunisolar.proofs.Laws.{year_found}
 use Rattle.units.specs.Xinghe.{xinghe}
-use Rattle.calendar.specs.Heads.{head_for}
 use Rattle.calendar.proofs.heads.year_head.Goals as goal
 
 pub head_of-requires : goal.head_of-requires

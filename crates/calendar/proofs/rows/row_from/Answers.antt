@@ -10,7 +10,7 @@ use Rattle.reckoning.proofs.Rows.{year_from}
 use Rattle.reckoning.proofs.Moons.{moon_high}
 use Rattle.lunisolar.specs.Names.{name_of}
 use Rattle.lunisolar.proofs.Days.{length_is}
-use Rattle.lunisolar.proofs.Rounds.{year_in_round, stands}
+use Rattle.lunisolar.proofs.Rounds.{stands}
 use Rattle.mean_calendar.specs.Months.{month_of}
 use Rattle.units.specs.Xinghe.{xinghe, means, rule}
 use Rattle.units.proofs.Sound.{sound, laws}

@@ -13,7 +13,7 @@ use Rattle.reckoning.proofs.Days.{leap_come_in, leap_come_before, before_solstic
 use Rattle.reckoning.proofs.Leaps.{year_low, year_ends, two_kinds, Common, Long}
 use Rattle.lunisolar.specs.Calendars.{Sound, means_of, rule_of}
 use Rattle.lunisolar.specs.declared.Constants.{Constants}
-use Rattle.lunisolar.proofs.Laws.{laws_of, before_bound}
+use Rattle.lunisolar.proofs.Laws.{laws_of}
 use Rattle.lunisolar.proofs.Days.{next_day}
 use Rattle.lunisolar.proofs.Figures.{one_at_most, place_is}
 use Rattle.lunisolar.proofs.rule.leap_beside.Goals as goal

@@ -5,7 +5,7 @@ use Prim.Native.Nat.{◌+◌, ◌*◌, ◌≤◌}
 use mir.Val.{bool_byte}
 use Rattle.reckoning.specs.Rule.{month_count}
 use Rattle.lunisolar.specs.Calendars.{rule_of}
-use Rattle.lunisolar.proofs.Laws.{before_bound, count_by}
+use Rattle.lunisolar.proofs.Laws.{count_by}
 use Rattle.lunisolar.proofs.rule.month_count.Goals as goal
 
 is_count : (a : goal.After-term_reaches) → 12 + bool_byte a.term_reaches.result ≡ month_count (rule_of a.args.year.calendar.constants) a.args.year.past
