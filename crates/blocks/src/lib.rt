@@ -15,7 +15,8 @@ use totals::Totals;
 pub mod bytes;
 pub mod check;
 
-// How many bytes a block has.
+// How many bytes a block has. A block in a volume is a part of it, so it comes as a slice with a length that contracts ask for: an array would be
+// copied out of it, or come from a call that can fail.
 pub const BLOCK: usize = 512;
 
 // The records of the months begin here.

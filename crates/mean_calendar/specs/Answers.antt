@@ -1,4 +1,4 @@
--- Each answer's number, 0 where it is answered, and its values, all zero where it is refused (01, "Numbers returned").
+-- The values of each answer where it is refused: all zero (01, "Numbers returned").
 -- Assumes nothing.
 use Rattle.std.specs.Prelude.{false}
 use Rattle.mean_calendar.specs.declared.MeanHead.{MeanHead}

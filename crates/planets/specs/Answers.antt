@@ -1,5 +1,5 @@
--- The answers of the planets' jobs (02 §1): conjunctions in days and remainders over D; each answer's number, 0 where it is answered, and
--- its values, all zero where it is refused. The zero of a kind is "neither", of a stage's kind "unused".
+-- The answers of the planets' jobs (02 §1): conjunctions in days and remainders over D, and the values where they are refused, all
+-- zero. The zero of a kind is "neither", of a stage's kind "unused".
 -- Assumes nothing.
 use Rattle.std.specs.Prelude.{Bool, true, false, cond, List, [], ◌∷◌, ℕ, ℤ, pos, negsuc, nat_abs}
 use Rattle.units.specs.Xinghe.{P}
