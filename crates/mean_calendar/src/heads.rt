@@ -23,7 +23,9 @@ fn head_of(year: Year) -> MeanHead
     }
 }
 
-// The head of a year whose first month was sought: its number is the months before the year.
+// The head of a year whose first month was sought: its number is the months before the year. In line, since the divisors are known in each calendar's own
+// head, and a division by a known number is a multiplication.
+#[inline(always)]
 pub fn head_for(k: Calendar, year: u64, first: Result<u64, Refusal>) -> Result<MeanHead, Refusal>
     requires { first ≡ lunation_at k.constants year 0 }
     ensures { result ≡ year_head k.constants year }
