@@ -57,8 +57,7 @@ fn put_record(out: &mut [u8], at: usize, row: MonthRow)
     requires { at + 16 ≤ length out.old }
     ensures { Wrote out.old out.new at (at + 16) (record_bytes row) }
 {
-    let remainder = row.remainder;
-    bytes::put_three(out, at, row.lunation, row.day, remainder.parts);
+    bytes::put_three(out, at, row.lunation, row.day, row.remainder.parts);
     bytes::put_four(
         out,
         at + 12,

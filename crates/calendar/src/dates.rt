@@ -21,6 +21,5 @@ pub fn date_of_day(number: u64) -> Result<Date, Refusal>
     }
     let m = Xinghe::month_of_day(number);
     let y = Xinghe::year_of(m);
-    let date = lunisolar::dates::date_in(units::chapter::begun(y), m, number);
-    Ok(date)
+    Ok(lunisolar::dates::date_in(units::chapter::begun(y), m, number))
 }

@@ -45,7 +45,7 @@ pub struct MonthRow {
     pub rest: DayRemainder,
 }
 
-// What a refused row is: all zeros, at the node. By hand, since the edit calendar/refused_with_values changes it.
+// What a refused row is: all zeros, at the node. By hand and not derived, so that it is one equation with `zero_row`.
 impl Default for MonthRow {
     ghost is_default = { λ row. row ≡ zero_row };
 

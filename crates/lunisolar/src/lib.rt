@@ -61,7 +61,7 @@ pub fn year_at(k: Calendar, year: u64) -> Result<u64, Refusal>
     Ok(past)
 }
 
-// Whether year y, counted from 0, with so many months before it, has a place.
+// Whether a year has a place.
 fn has_place(year: Year, place: u64) -> bool
     ensures { result ≡ ltb place (month_count (rule_of year.calendar.constants) year.past) }
 {
@@ -72,7 +72,7 @@ fn has_place(year: Year, place: u64) -> bool
     place < rule::month_count(year)
 }
 
-// The month at a place of year y, counted from 0, from the months before it.
+// The month at a place of a year.
 pub fn lunation_in(year: Year, place: u64) -> Result<u64, Refusal>
     ensures { result ≡ lunation_for year.calendar.constants (Ok year.past) place }
 {

@@ -49,14 +49,14 @@ pub fn months_from(k: Calendar, y: u64, count: u64) -> u64
     }
 }
 
-// The months of year y: a thirteenth where the next solstice falls on the first day of the month after the thirteenth or later.
+// The months of a year: a thirteenth where the next solstice falls on the first day of the month after the thirteenth or later.
 pub fn month_count(year: Year) -> u64
     ensures { result ≡ month_count (rule_of year.calendar.constants) year.past }
 {
     12 + term_reaches(year.calendar, 12 * year.past + 12, year.before + 13) as u64
 }
 
-// A place next to that of year y's leap month, or its own, if the year has one: the last at which by instants it hasn't come. By instants it has come
+// A place next to that of a year's leap month, or its own, if the year has one: the last at which by instants it hasn't come. By instants it has come
 // from the first place on whose term has fallen behind by the whole gap from the solstice to the next new moon; by days from there, or from one
 // or two places before.
 fn near_leap(year: Year) -> u64
@@ -69,7 +69,7 @@ fn near_leap(year: Year) -> u64
     (12 * gap - 1) / gain
 }
 
-// The place of the leap month of year y, 0 where it has none, from a place that is its own or next to it; where the year has none, any place serves
+// The place of the leap month of a year, 0 where it has none, from a place that is its own or next to it; where the year has none, any place serves
 // that has a term before it. That place and the one before are looked at in every year, and what they tell is taken times 0 or 1: a jump would often
 // be guessed wrongly. The bound on the place leaves room for the figures; it need not be one of the year's.
 fn leap_beside(year: Year, near: u64) -> u64
@@ -93,7 +93,7 @@ pub struct YearMonths {
     pub leap: u64,
 }
 
-// Of year y, from the months before it and a place that is its leap month's or next to it.
+// Of a year, from a place that is its leap month's or next to it.
 pub fn months_near(year: Year, near: u64) -> YearMonths
     requires { (near < 1048576) × (0 < 12 * year.past + near) × LeapNear (leap_place (rule_of year.calendar.constants) year.past) near }
     ensures { result ≡ year_months year.calendar.constants year.past }
@@ -107,7 +107,7 @@ pub fn months_near(year: Year, near: u64) -> YearMonths
     }
 }
 
-// Of year y, from the months before it.
+// Of a year, from a place worked out from its solstice.
 pub fn year_months(year: Year) -> YearMonths
     ensures { result ≡ year_months year.calendar.constants year.past }
 {

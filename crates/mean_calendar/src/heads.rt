@@ -8,7 +8,7 @@ use crate::parts::over_degree;
 use lunisolar::{Calendar, Year};
 use refusal::Refusal;
 
-// Of year y, counted from 0, from the months before it.
+// Of a year that has its months before it.
 fn head_of(year: Year) -> MeanHead
     ensures { result ≡ head_of year.calendar.constants year.past }
 {

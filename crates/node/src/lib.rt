@@ -24,7 +24,7 @@ pub enum Side {
 }
 
 impl Side {
-    // As lists and lines of numbers have it. By name and not as `u64::from`: a side is a number only where it is handed to C.
+    // As lists and lines of numbers have it. A method and not `u64::from`: `number` is the word for it in every answer (`Numbered`).
     pub fn number(self) -> u64
         ensures { result ≡ side_number self }
     {

@@ -4,7 +4,7 @@ ghost use Rattle.planets.specs.Answers.{apparition_number, stage_kind_number};
 
 use crate::{Apparition, StageKind};
 
-// By name and not as `u64::from`: these are numbers only in the rows that are handed to C.
+// Methods and not `u64::from`: `number` is the word for it in every answer (`Numbered`).
 impl Apparition {
     pub fn number(self) -> u64
         ensures { result ≡ apparition_number self }

@@ -133,11 +133,10 @@ fn following_of(k: Planet, c: ConjunctionParts) -> ConjunctionParts
     ensures { result ≡ following k.period k.halved c }
 {
     let later = interval_of(k);
-    let kind = c.kind;
     ConjunctionParts {
         instant: c.instant + later,
         time: c.time + later,
-        kind: turn(kind),
+        kind: turn(c.kind),
     }
 }
 

@@ -10,7 +10,7 @@ pub fn read_full<R: Read>(input: &mut R, buffer: &mut [u8]) -> usize
     ensures { result ≤ length buffer.new }
 {
     let mut done = 0;
-    // By index: a read may put fewer bytes than there is room for, and no call of the library that reads on says how many came where the input ends.
+    // By index: a read may put fewer bytes than there is room for, and no call of the library that fills a lent buffer says how many bytes came where the input ends.
     while done < buffer.len() {
         let Ok(got) = input.read(&mut buffer[done..]) else {
             break;

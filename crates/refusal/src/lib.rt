@@ -41,7 +41,7 @@ pub enum Refusal {
 }
 
 impl Refusal {
-    // By name and not as `u64::from`: a refusal is no number but where it is handed to C, which is told these.
+    // A method and not `u64::from`: `number` is the word for it in every answer (`Numbered`).
     pub fn number(self) -> u64
         ensures { result ≡ number_of self }
     {

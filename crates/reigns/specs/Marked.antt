@@ -49,6 +49,7 @@ marked_answer bytes from to =
     (Err Refusal.Span))
     (Err Refusal.Volume)
 
+-- the new moons and the full moons, 0 where it is refused
 abbrev pub marked_moons : Result (ℕ × ℕ) Refusal → List ℕ
 marked_moons (Ok (news, fulls)) = news ∷ fulls ∷ []
 marked_moons (Err e) = 0 ∷ 0 ∷ []

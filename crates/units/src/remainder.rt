@@ -2,6 +2,8 @@
 ghost use Rattle.std.specs.Prelude.{◌≡◌, ◌+◌, ◌<◌};
 ghost use Rattle.units.specs.Units.{carry_over};
 
+use crate::Xinghe;
+
 // A remainder over a divisor. Remainders over two divisors are of two types.
 #[derive(Clone, Copy, Default)]
 pub struct Remainder<const DIVISOR: u64> {
@@ -15,15 +17,15 @@ pub struct Carry<const DIVISOR: u64> {
     pub remainder: Remainder<DIVISOR>,
 }
 
-// Over the day divisor, N (小餘 over 日法). A type takes a number, not a constant's name.
-pub type DayRemainder = Remainder<208530>;
+// Over the day divisor, N (小餘 over 日法).
+pub type DayRemainder = Remainder<{ Xinghe::N }>;
 
-pub type DayCarry = Carry<208530>;
+pub type DayCarry = Carry<{ Xinghe::N }>;
 
 // Over the degree divisor, D (小餘 over 蔀法).
-pub type DegreeRemainder = Remainder<16860>;
+pub type DegreeRemainder = Remainder<{ Xinghe::D }>;
 
-pub type DegreeCarry = Carry<16860>;
+pub type DegreeCarry = Carry<{ Xinghe::D }>;
 
 impl<const DIVISOR: u64> Remainder<DIVISOR> {
     // So many parts more: each whole divisor is a day, or a degree.

@@ -33,6 +33,7 @@ read_answer bytes =
     (Err Refusal.Block))
     (Err Refusal.Volume)
 
+-- the two years, 0 where it is refused
 abbrev pub read_years : Result (ℕ × ℕ) Refusal → List ℕ
 read_years (Ok (first, last)) = first ∷ last ∷ []
 read_years (Err e) = 0 ∷ 0 ∷ []

@@ -28,6 +28,7 @@ unfoldable pub rows_from : ℕ → ℕ → ℕ → List MonthRow
 rows_from n p zero = []
 rows_from n p (suc k) = row_at n p ∷ rows_from n (suc p) k
 
+-- how many rows are written
 abbrev pub to_write : ℕ → ℕ → ℕ
 to_write n have = result_unwrap_or (fill_answer n have) 0
 

@@ -22,11 +22,11 @@ year_of-y-requires c = omega (arith, in_round_lem c)
 pub begun-requires : goal.begun-requires
 begun-requires c = omega (arith, c.year_of-y.ensures, year_in_round xinghe sound c.month_of_day-m.result (in_round_lem c.before))
 
-pub date_in-date-requires : goal.date_in-date-requires
-date_in-date-requires c =
+pub date_in-requires : goal.date_in-requires
+date_in-requires c =
     rw (c.begun.ensures.0, c.begun.ensures.1) (in_round_lem c.before.before, c.year_of-y.ensures, c.month_of_day-m.ensures)
 
 pub returns : goal.returns
 unfolding date_of_day
 returns c =
-    rw (lt-ltb c.args.number round_days c.if-number-ge-DAYS.false, c.date_in-date.ensures, c.begun.ensures.0, c.month_of_day-m.ensures) refl
+    rw (lt-ltb c.args.number round_days c.if-number-ge-DAYS.false, c.date_in.ensures, c.begun.ensures.0, c.month_of_day-m.ensures) refl
