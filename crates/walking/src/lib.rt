@@ -93,6 +93,7 @@ pub fn walk_months(size: u64, from: u64, counts: &[i64]) -> Steps
 }
 
 // Where a walk comes to: a month, how far that is from the first, and how many of the counts were answered.
+// Of its own and not `Walked<u64>`: its `row` would hold a month's number, which is no row.
 #[derive(Clone, Copy)]
 pub struct Arrival {
     pub month: u64,
