@@ -17,6 +17,13 @@ pub struct Planet {
     pub halved: bool,
 }
 
+// A planet whose number is sound, as each of the five has it.
+#[derive(Clone, Copy)]
+pub struct KnownPlanet {
+    pub planet: Planet,
+    pub ghost sound: { SoundPlanet planet },
+}
+
 // The planets are numbered from 1 to this.
 pub const PLANETS: u64 = 5;
 
@@ -49,13 +56,15 @@ fn period_of(planet: u64) -> u64
     choose(planet < HALVED_FROM, outer, inner)
 }
 
-pub fn planet_of(planet: u64) -> Planet
+pub fn planet_of(planet: u64) -> KnownPlanet
     requires { T (is_planet planet) }
-    ensures { result ≡ planet_of planet }
+    ensures { result.planet ≡ planet_of planet }
 {
-    Planet {
-        period: period_of(planet),
-        halved: HALVED_FROM <= planet,
+    KnownPlanet {
+        planet: Planet {
+            period: period_of(planet),
+            halved: HALVED_FROM <= planet,
+        },
     }
 }
 
@@ -113,10 +122,11 @@ fn kind_from(k: Planet, remaining: u64) -> Apparition
 }
 
 // The conjunction of the year with y years past.
-fn conjunction_of(k: Planet, y: u64) -> ConjunctionParts
-    requires { SoundPlanet k × (y < 1048576) }
-    ensures { result ≡ conjunction_of P k.period k.halved y }
+fn conjunction_of(known: KnownPlanet, y: u64) -> ConjunctionParts
+    requires { y < 1048576 }
+    ensures { result ≡ conjunction_of P known.planet.period known.planet.halved y }
 {
+    let k = known.planet;
     let solstice = y * Xinghe::P;
     let remaining = k.period - solstice % k.period;
     let time = less_half(k, remaining);
@@ -128,11 +138,11 @@ fn conjunction_of(k: Planet, y: u64) -> ConjunctionParts
 }
 
 // The conjunction after it.
-fn following_of(k: Planet, c: ConjunctionParts) -> ConjunctionParts
-    requires { SoundPlanet k × (c.instant < 1152921504606846976) × (c.time < 1152921504606846976) }
-    ensures { result ≡ following k.period k.halved c }
+fn following_of(known: KnownPlanet, c: ConjunctionParts) -> ConjunctionParts
+    requires { (c.instant < 1152921504606846976) × (c.time < 1152921504606846976) }
+    ensures { result ≡ following known.planet.period known.planet.halved c }
 {
-    let later = interval_of(k);
+    let later = interval_of(known.planet);
     ConjunctionParts {
         instant: c.instant + later,
         time: c.time + later,
@@ -152,12 +162,12 @@ fn shown_of(c: ConjunctionParts) -> Conjunction
     }
 }
 
-pub fn conjunctions_of(k: Planet, y: u64) -> TwoConjunctions
-    requires { SoundPlanet k × (y < 1048576) }
-    ensures { result ≡ conjunctions_of k y }
+pub fn conjunctions_of(known: KnownPlanet, y: u64) -> TwoConjunctions
+    requires { y < 1048576 }
+    ensures { result ≡ conjunctions_of known.planet y }
 {
-    let standing = conjunction_of(k, y);
+    let standing = conjunction_of(known, y);
     let first = shown_of(standing);
-    let second = shown_of(following_of(k, standing));
+    let second = shown_of(following_of(known, standing));
     TwoConjunctions { first, second }
 }

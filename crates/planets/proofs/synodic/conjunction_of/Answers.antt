@@ -7,7 +7,8 @@ use Rattle.planets.proofs.synodic.conjunction_of.Goals as goal
 
 pub overflow_add-result : goal.overflow_add-result
 overflow_add-result c =
-    omega (arith, c.less_half-time.ensures, less_most c.args.k.period c.args.k.halved (c.args.k.period - c.args.y * P % c.args.k.period), c.requires.0.room)
+    let k = c.args.known.planet in
+    omega (arith, c.less_half-time.ensures, less_most k.period k.halved (k.period - c.args.y * P % k.period), c.args.known.sound.room)
 
 pub returns : goal.returns
 unfolding conjunction_of time kind remaining rest

@@ -8,11 +8,10 @@ use Rattle.planets.proofs.synodic.conjunctions_of.Goals as goal
 
 pub following_of-requires : goal.following_of-requires
 following_of-requires c =
-    let a = c.args in
+    let k = c.args.known.planet in
     let e = c.conjunction_of-standing.ensures in (
-      c.requires.0,
-      omega (arith, ap (λ (s : ConjunctionParts). s.instant) e, instant_most P a.k.period a.k.halved a.y),
-      omega (arith, ap (λ (s : ConjunctionParts). s.time) e, kept_time P a.k.period a.k.halved a.y),
+      omega (arith, ap (λ (s : ConjunctionParts). s.instant) e, instant_most P k.period k.halved c.args.y),
+      omega (arith, ap (λ (s : ConjunctionParts). s.time) e, kept_time P k.period k.halved c.args.y),
     )
 
 pub returns : goal.returns
