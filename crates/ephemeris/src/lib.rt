@@ -60,6 +60,9 @@ fn point_in(y: u64, cut: u64, index: u64) -> Result<Point, Refusal>
 pub fn cut_point(year: u64, cut: u64, index: u64) -> Result<Point, Refusal>
     ensures { result ≡ cut_point year cut index }
 {
-    let y = Xinghe::year_at(year)?;
-    point_in(y, cut, index)
+    // Not by `?`: so the refusal has an arm, and it shows there under which number.
+    match Xinghe::year_at(year) {
+        Ok(y) => point_in(y, cut, index),
+        Err(e) => Err(e),
+    }
 }

@@ -13,15 +13,21 @@ pub mod sink;
 // Room for the longest line, which has 276 bytes, and its end. What does not fit is left out, so that building a line asks nothing of its caller.
 const ROOM: usize = 288;
 
-#[derive(Drop)]
+// Room for a blank and the longest number, or the longest signed one.
+const DIGITS: usize = 21;
+
+// An array and a length: an `ArrayVec` would not be `Copy`.
+#[derive(Clone, Copy)]
 pub struct Line {
-    bytes: ArrayVec<u8, ROOM>,
+    pub bytes: [u8; ROOM],
+    pub len: usize,
 }
 
 impl Line {
     pub fn new() -> Self {
         Self {
-            bytes: ArrayVec::new(),
+            bytes: [0; ROOM],
+            len: 0,
         }
     }
 
@@ -30,25 +36,35 @@ impl Line {
     }
 
     pub fn text(mut self, text: &[u8]) -> Self {
-        let _ = self.bytes.try_extend_from_slice(text);
+        let at = self.len;
+        if at < ROOM {
+            let count = text.len().min(ROOM - at);
+            self.bytes[at..at + count].copy_from_slice(&text[..count]);
+            self.len = at + count;
+        }
         self
     }
 
     // A number after a space, as every number of a line stands.
-    pub fn number(mut self, number: u64) -> Self {
-        let _ = write!(self.bytes, " {number}");
-        self
+    pub fn number(self, number: u64) -> Self {
+        let mut digits: ArrayVec<u8, DIGITS> = ArrayVec::new();
+        let _ = write!(digits, " {number}");
+        self.text(digits.as_slice())
     }
 
-    pub fn signed(mut self, number: i64) -> Self {
-        let _ = write!(self.bytes, " {number}");
-        self
+    pub fn signed(self, number: i64) -> Self {
+        let mut digits: ArrayVec<u8, DIGITS> = ArrayVec::new();
+        let _ = write!(digits, " {number}");
+        self.text(digits.as_slice())
     }
 
     // Ends and writes the line.
     pub fn write(self, rt: &impl Print) -> io::Result<()> {
         let ended = self.byte(b'\n');
-        rt.write_all(ended.bytes.as_slice())
+        if let Some(bytes) = ended.bytes.get(..ended.len) {
+            rt.write_all(bytes)?;
+        }
+        Ok(())
     }
 
     // Writes the question with the number of its refusal.

@@ -160,8 +160,11 @@ stages_of p = get_or (jupiter_stages ∷ mars_stages ∷ saturn_stages ∷ venus
 abbrev pub room : ℕ
 room = 14
 
+abbrev pub zero_stage : Stage
+zero_stage = stage 0 0 (pos 0) 0 0 0 0 Unused Neither
+
 abbrev pub no_stages : List Stage
-no_stages = replicate room (stage 0 0 (pos 0) 0 0 0 0 Unused Neither)
+no_stages = replicate room zero_stage
 
 -- a list in that room: zero past its end
 abbrev pub in_room : List Stage → List Stage

@@ -2,7 +2,8 @@
 #![tactic(auto)]
 
 ghost use Rattle.std.specs.Prelude.{◌≡◌, ◌<◌};
-ghost use Rattle.planets.specs.Jobs.{conjunctions_in, conjunctions_at, stages_at, count_of};
+ghost use Rattle.planets.specs.Stages.{zero_stage};
+ghost use Rattle.planets.specs.Jobs.{conjunctions_in, conjunctions_at, stages_at, zero_stages, count_of};
 
 use refusal::Refusal;
 use units::Xinghe;
@@ -62,11 +63,42 @@ pub struct Stage {
     pub apparition: Apparition,
 }
 
+// What a place of the list has that no stage takes. By hand and not derived, so that it is one equation with `zero_stage`.
+impl Default for Stage {
+    ghost is_default = { λ stage. stage ≡ zero_stage };
+
+    fn default() -> Stage {
+        Stage {
+            days: 0,
+            remainder: DegreeRemainder { parts: 0 },
+            degrees: 0,
+            excess: DegreeRemainder { parts: 0 },
+            whole: 0,
+            numerator: 0,
+            denominator: 0,
+            kind: StageKind::Unused,
+            apparition: Apparition::Neither,
+        }
+    }
+}
+
 // How many stages a planet has, and they themselves in print order, zero from the count on.
 #[derive(Clone, Copy)]
 pub struct StageList {
     pub count: u64,
     pub stages: [Stage; 14],
+}
+
+// What refused stages are: none, and zero throughout.
+impl Default for StageList {
+    ghost is_default = { λ list. list ≡ zero_stages };
+
+    fn default() -> StageList {
+        StageList {
+            count: 0,
+            stages: [Stage::default(); 14],
+        }
+    }
 }
 
 fn conjunctions_in(y: u64, planet: u64) -> Result<TwoConjunctions, Refusal>

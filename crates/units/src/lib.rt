@@ -91,8 +91,11 @@ impl Xinghe {
     pub fn lunation_at(year: u64, place: u64) -> Result<u64, Refusal>
         ensures { result ≡ lunation_at xinghe year place }
     {
-        let y = Xinghe::year_at(year)?;
-        lunisolar::lunation_in(chapter::begun(y), place)
+        // Not by `?`: so the refusal has an arm, and it shows there under which number.
+        match Xinghe::year_at(year) {
+            Ok(y) => lunisolar::lunation_in(chapter::begun(y), place),
+            Err(e) => Err(e),
+        }
     }
 
     // The leap remainder of a year, counted from 0.

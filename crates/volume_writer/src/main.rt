@@ -9,20 +9,24 @@ use std::io::Read;
 use volume_text::reader::SpanReader;
 
 // One byte at a time, so that what follows the line is left for whoever reads next. The line ends at a newline, at the end of the input, and where it
-// is settled. A read that a signal cuts short is tried again; any other failure leaves a line that isn't known: it asks for no year.
-fn read_span<R: Read + Drop>(input: R) -> SpanReader {
+// is settled. A read that fails, also where a signal cuts it short, leaves a line that isn't known: it asks for no year. So the bytes don't come by
+// `bytes()`, which tries such a read again. A proved loop has to end: the turns are more than any run uses up.
+fn read_span<R: Read>(input: &mut R) -> SpanReader {
     let mut reader = SpanReader::new();
-    for byte in input.bytes() {
-        match byte {
-            Ok(b'\n') => return reader,
-            Ok(byte) => reader = reader.feed(byte),
-            Err(_) => return SpanReader::new(),
+    for _ in 0..u64::MAX {
+        let mut byte = [0u8; 1];
+        let Ok(got) = input.read(&mut byte) else {
+            return SpanReader::new();
+        };
+        if (got == 0) | (byte[0] == b'\n') {
+            return reader;
         }
+        reader = reader.feed(byte[0]);
         if reader.settled() {
             return reader;
         }
     }
-    reader
+    SpanReader::new()
 }
 
 // It ends where a write does not go through: nobody reads on.
@@ -36,7 +40,7 @@ fn write_blocks(rt: &impl Print, first: u64, n: u64) -> io::Result<()>
 }
 
 fn main(rt: HostRuntime) -> io::Result<()> {
-    let reader = read_span(rt.stdin());
+    let reader = read_span(&mut rt.stdin());
     match reader.span() {
         Ok(n) => write_blocks(&rt, reader.first.year(), n),
         Err(e) => {

@@ -7,3 +7,4 @@ pub mod Bits
 pub mod HandedIn
 pub mod Arrivals
 pub mod Demand
+pub mod Shown

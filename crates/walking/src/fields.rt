@@ -9,10 +9,14 @@ pub fn bit(yes: bool) -> u64
     yes as u64
 }
 
-// Whether two rows have the same number at each place.
+// Whether two rows have the same number at each place. By place and not by `==`, so that the proof sees a field that is left out.
 pub fn same_fields(a: &[u64], b: &[u64]) -> bool
     requires { length a.now ≡ length b.now }
     ensures { result ≡ same_fields (length a.now) a.now b.now }
 {
-    a == b
+    let mut same = true;
+    for i in 0..a.len() {
+        same = (a[i] == b[i]) & same;
+    }
+    same
 }
