@@ -160,6 +160,7 @@ stages_of p = get_or (jupiter_stages ∷ mars_stages ∷ saturn_stages ∷ venus
 abbrev pub room : ℕ
 room = 14
 
+-- what a place has that no stage takes: zero throughout, its kind "unused"; and all places so
 abbrev pub zero_stage : Stage
 zero_stage = stage 0 0 (pos 0) 0 0 0 0 Unused Neither
 
